@@ -35,7 +35,7 @@ export function hashOf({ name, pages, position, text, files }) {
   return hash.length <= MOST_CHARACTERS ? hash : undefined;
 }
 
-// What stands behind the # of a link that is the whole of a text, also where that part is there alone; or an empty text.
+// What stands behind the # of a link that is the whole of a text, or that part where it is there alone; else nothing.
 export function hashIn(text) {
   const [, hash] = /^(?:[^ #]*#)?((?:name|pages|at|script|file)=[!-~]*)$/.exec(text.trim()) ?? [];
   return hash !== undefined && /(?:^|&)script=/.test(hash) ? hash : "";

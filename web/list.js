@@ -149,7 +149,7 @@ export class List {
     this.#later = later;
     earlier.addEventListener("click", () => this.#showMore(-MOVE));
     later.addEventListener("click", () => this.#showMore(MOVE));
-    addEventListener("resize", () => this.#rows.forEach((row) => row.fit()));
+    addEventListener("resize", () => this.fit());
     addEventListener("beforeprint", () => this.#allow(PRINTED_ROWS));
     addEventListener("afterprint", () => this.#allow(ROWS));
   }
@@ -165,6 +165,11 @@ export class List {
     this.#moveRows(this.#first);
     if (!isWorkedIn) this.#reveal(at);
     if (activeElement.hidden && [this.#earlier, this.#later].includes(activeElement)) this.focus(at);
+  }
+
+  // Makes the fields as high as their texts, also after the list wasn't seen.
+  fit() {
+    this.#rows.forEach((row) => row.fit());
   }
 
   // Lets so many lines have rows, as many more go on paper.

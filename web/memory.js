@@ -67,7 +67,7 @@ export class Memory {
     this.changes = [];
     const isEmpty = this.#session.state.lines.length === 0;
     this.#parts.empty.hidden = !isEmpty;
-    this.#showMessages([], "");
+    this.#makeRoomForMessages();
     const fault = this.#session.fault || this.#draw();
     this.#parts.nothing.textContent = fault;
     this.#parts.nothing.hidden = !fault || isEmpty;
@@ -102,8 +102,8 @@ export class Memory {
     return "";
   }
 
-  // Shows the messages of a step. They have their place from the first step on where the script sends some.
-  #showMessages(messages, style) {
+  // Messages have their place from the first step on where the script sends some.
+  #makeRoomForMessages() {
     const { replies, state } = this.#session;
     if (replies !== this.#replies) {
       this.#replies = replies;
@@ -111,11 +111,21 @@ export class Memory {
     }
     const hasRoom = this.#sends && this.#view === "picture";
     this.#parts.messages.hidden = !hasRoom;
+    this.#parts["no-messages"].hidden = false;
     document.body.classList.toggle("with-messages", hasRoom);
-    if (!hasRoom) return;
-    this.#parts["no-messages"].hidden = messages.length > 0;
+    this.#chart.clear();
+  }
+
+  #showMessages(messages, style) {
+    if (!messages.length) return;
+    this.#parts["no-messages"].hidden = true;
     this.#chart.show(style, messages, []);
-    this.#parts.messages.scrollTop = this.#parts.messages.scrollHeight;
+  }
+
+  // Brings the last messages into view, once all of the page is as high as it gets.
+  settle() {
+    const { messages } = this.#parts;
+    if (!messages.hidden) messages.scrollTop = messages.scrollHeight;
   }
 
   #tellChanges() {

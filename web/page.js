@@ -116,15 +116,20 @@ class Page {
     this.#steps.show();
     this.#guess.show();
     this.#memory.show();
-    // The prompt's hint has its height before the line that ran last is brought into view.
     this.#prompt.usualHint = position < lines.length ? placeHint(position) : "";
-    this.#list.show();
     parts.name.value = name;
     parts.pages.value = pages;
     document.title = lines.length ? `${name} – Vervainfile` : "Vervainfile";
     parts.progress.textContent = this.#progress();
     this.#enableButtons();
     this.#say();
+    this.#settle();
+  }
+
+  // Brings what happened last into view, once all else has its height.
+  #settle() {
+    this.#list.show();
+    this.#memory.settle();
   }
 
   // How far the script has run, and how many replies the last change has changed.
@@ -293,7 +298,10 @@ class Page {
       { panel: parts.file, button: parts["file-button"], close: parts["file-close"] },
       { panel: parts.help, button: parts["help-button"], close: parts["help-close"], first: parts.find },
     ]);
-    listenToPanes(parts.panes, () => this.#show());
+    listenToPanes(parts.panes, () => {
+      this.#list.fit();
+      this.#settle();
+    });
     for (const [id, action] of Object.entries(this.#actions)) parts[id].addEventListener("click", action);
     const onFiles = (id, action) => parts[id].addEventListener("change", () => this.#takeFiles(parts[id], action));
     onFiles("open-file", ([file]) => this.#take(file, []));

@@ -68,6 +68,11 @@ export class Picture {
     if (memory) this.#frame(memory, scrolled);
   }
 
+  // Shows nothing any more.
+  clear() {
+    this.#figure.replaceChildren();
+  }
+
   // Puts the pool and all below it into frames, each of which scrolls by itself where it is too wide.
   #frame(memory, scrolled) {
     const [pool, ...others] = memory.children;

@@ -46,7 +46,7 @@ export class Steps {
   // Takes other replies up: the commands are the lines that have some.
   #take(replies) {
     this.#replies = replies;
-    this.#commands = replies.flatMap((reply, at) => reply === null ? [] : [at]);
+    this.#commands = [...replies.keys()].filter((at) => replies[at] !== null);
     const isShort = this.#commands.length <= MOST_TICKS;
     this.#ticks.replaceChildren(...isShort ? this.#commands.map((at, index) => this.#tickOf(at, index)) : []);
   }

@@ -108,7 +108,7 @@ export class Story {
   #lesson;
   #head = element("p", "lesson");
   #title = element("h3", "title");
-  #remark = element("p", "remark");
+  #remark = element("p", "tale");
   #asked = element("div");
   #forms = new Map();
   #answered = new Set();

@@ -21,8 +21,9 @@ SECONDS = 240
 # So long a page may take until something holds.
 WAITED = 60
 MODIFIERS = {"Alt": 1, "Control": 2, "Meta": 4, "Shift": 8}
-KEY_CODES = {"Enter": 13, "Escape": 27, "Tab": 9, "Backspace": 8, "ArrowUp": 38, "ArrowDown": 40, "F8": 119, "F9": 120,
-             "Delete": 46, "End": 35, "Home": 36}
+KEY_CODES = {"Enter": 13, "Escape": 27, "Tab": 9, "Backspace": 8, "ArrowUp": 38, "ArrowDown": 40, "ArrowLeft": 37,
+             "ArrowRight": 39, "F1": 112, "F8": 119, "F9": 120, "Delete": 46, "End": 35, "Home": 36, " ": 32, "z": 90,
+             "Z": 90, "y": 89}
 
 
 def installed():

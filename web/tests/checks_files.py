@@ -180,7 +180,7 @@ def check_files_that_go(bench):
             holds(not any(page.value(told)), "what was told of a file stands beside another")
             found.append([[name for name, _ in page.value(FILES)], page.value("document.activeElement.value")])
         same(found[:3], [[["a", "c", "d"], "c"], [["a", "c"], "c"], [["c"], "c"]], "the files, and what has the focus")
-        same([found[3][0], page.focused()], [[], "add"], "the files at the end, and what has the focus")
+        same([found[3][0], page.focused()], [[], "file-button"], "the files at the end, and what has the focus")
         page.click("undo")
         same([name for name, _ in page.value(FILES)], ["c"], "the files when the last is back")
 

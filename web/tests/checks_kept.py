@@ -1,6 +1,6 @@
 """What a tab keeps when it is loaded again, and where nothing may be kept."""
 
-from bench import same
+from bench import holds, same
 from checks_modules import on_disk
 
 import make
@@ -8,8 +8,9 @@ import make
 # A browser that lets no page keep anything.
 KEEPS_NOTHING = """Object.defineProperty(globalThis, 'sessionStorage', {
   get() { throw new DOMException('not allowed', 'SecurityError'); } });"""
-# A script that doesn't fit into a link.
+# A script that doesn't fit into a link, and one that a tab doesn't keep.
 LONG = b"# remark\n" * 5000
+TOO_LONG = b"# remark\n" * 200_000
 
 
 def load_again(page):
@@ -52,14 +53,40 @@ def check_kept_from_disk(bench):
 
 
 def check_loaded_too_long(bench):
-    """A tab whose script doesn't fit into a link has none when it is loaded again, also none from before."""
+    """A tab keeps a script that is too long for a link; one that is much longer it doesn't, and has none then."""
     with bench.page() as page:
         page.enter("areas")
         load_again(page)
         same(lines(page), ["areas"], "what is left of one line")
         page.drop_bytes("long.desk", LONG)
         load_again(page)
-        same([lines(page), page.text("notice")], [[], ""], "what is left of a long script")
+        same([len(lines(page)), page.text("later")], [400, "4,600 later lines: show some"], "what is left of many")
+        page.drop_bytes("longer.desk", TOO_LONG)
+        load_again(page)
+        same([lines(page), page.text("notice")], [[], ""], "what is left of too many")
+
+
+def check_history_kept(bench):
+    """What Undo and Redo know is there when a tab is loaded again, once and twice, with files and with the lesson."""
+    with bench.page() as page:
+        page.load("lessons/holes")
+        page.click("step")
+        page.drop_bytes("a.bin", b"\0\xff")
+        page.enter("areas")
+        page.click("undo")
+        for _ in range(2):
+            load_again(page)
+            same([page.disabled(), page.field("examples"), page.text("files"), page.text("progress")],
+                 [[], "lessons/holes", "2 bytesCheck×", "2 of 23 lines have run"], "what is left")
+            holds(page.text("story").startswith("Lesson 1"), "the lesson is lost")
+        page.click("redo")
+        same([len(lines(page)), page.disabled()], [24, ["redo"]], "what Redo brings")
+        for _ in range(3):
+            page.click("undo")
+        same([lines(page), page.text("files"), page.disabled()[0]], [[], "", "undo"], "what Undo brings")
+        page.click("redo")
+        load_again(page)
+        same([page.field("examples"), len(lines(page))], ["lessons/holes", 23], "what is left of Redo")
 
 
 def check_keeps_nothing(bench):

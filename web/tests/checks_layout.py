@@ -9,6 +9,8 @@ from checks_looks import COLOURED, TINTS
 # The edges of an element in the window.
 EDGES = "(({ left, top, right, bottom }) => ({ left, top, right, bottom }))(%s.getBoundingClientRect())"
 FOCUSED = "document.activeElement"
+# Where what has the focus begins in the window, also within a picture.
+TOP_OF_FOCUSED = """((it) => (it.shadowRoot?.activeElement ?? it).getBoundingClientRect().top)(document.activeElement)"""
 # How much of what stands in an element is cut off below.
 CUT_OFF = "((it) => it.scrollHeight - it.clientHeight)(document.querySelector('%s'))"
 # The least contrast of a control's edge, and of the line around what has the focus, to what is behind it.
@@ -30,7 +32,10 @@ SHAPES = """[...document.querySelector('#picture').shadowRoot.querySelectorAll('
 
 # The colours of the lines around what the last command has changed.
 FRESH_COLOURS = """[...new Set([...document.querySelector('#picture').shadowRoot.querySelectorAll('svg .fresh')]
-  .map((it) => getComputedStyle(it).stroke))]"""
+  .map((it) => getComputedStyle(it)).map(({ stroke, filter }) => /rgb[^)]*[)]/.exec(filter)?.[0] ?? stroke))]"""
+# Of flex blocks that have changed the colours from within: the block, the line of paper, and the edge.
+FLEX_EDGES = """[...document.querySelector('#picture').shadowRoot.querySelectorAll('svg .flex.fresh:not(.card)')]
+  .map((it) => getComputedStyle(it)).map(({ fill, stroke, filter }) => [fill, stroke, /rgb[^)]*[)]/.exec(filter)[0]])"""
 # Examples of which a step on the way is looked at, by its number.
 STEPS = {"hello": 2, "made-areas": 5, "sliding": 5, "lessons/death": 9}
 
@@ -52,39 +57,45 @@ def contrast(one, other):
 
 
 def check_side_by_side(bench):
-    """In a wide window memory stands beside the script, which stays in sight as far down as memory goes."""
+    """In a wide window memory stands beside story and script, and nothing but panes is scrolled."""
     with bench.kept_page() as page:
         page.tab.resize(1440, 640)
         page.load("transfer")
         page.click("run")
-        script, memory = edges(page, "section.script"), edges(page, "section.memory")
-        holds(memory["left"] >= script["right"] and abs(memory["top"] - script["top"]) < 2, "memory isn't beside it")
-        page.value(f"scrollTo(0, {memory['bottom'] - 640})")
-        holds(page.value("scrollY") > 100, "there is nothing to scroll")
-        for name in ("#script-heading", "#command", "#step", "#lines .current"):
+        script, beside, story = (edges(page, it) for it in ("section.script", ".beside", "#story"))
+        holds(beside["left"] >= script["right"] and beside["left"] >= story["right"], "memory isn't beside the script")
+        holds(abs(beside["top"] - story["top"]) < 2 and abs(beside["bottom"] - script["bottom"]) < 2,
+              "memory isn't as high as story and script")
+        holds(script["top"] >= story["bottom"], "the script isn't below its story")
+        page.value("scrollTo(0, 500)")
+        same(page.value("scrollY"), 0, "how far the page is scrolled")
+        for name in ("#command", "#step", "#lines .current", "#shown", "#slider"):
             found = edges(page, name)
             holds(found["top"] >= 0 and found["bottom"] <= 640, f"{name} isn't in sight")
 
 
 def check_low_window(bench):
-    """In a wide window that is low the prompt and the steps are reached beside a long script with many files."""
+    """In a window that is low the prompt and the steps are reached beside a long script with many files."""
     files = "&".join(f"file=f{number}:" for number in range(32))
     with bench.page(f"#script={'areas%0A' * 100}&{files}") as page:
         for height in (900, 560):
             page.tab.resize(1440, height)
             page.click("run")
             script = edges(page, "section.script")
-            holds(script["bottom"] - script["top"] <= height, f"the script is higher than a window of {height}")
+            holds(script["bottom"] <= edges(page, "footer")["top"], f"the script is over the steps at {height}")
             for name in ("command", "step"):
                 page.focus(f"#{name}")
                 found = edges(page, f"#{name}")
                 holds(found["top"] >= 0 and found["bottom"] <= height, f"{name} isn't in sight at {height}")
-                holds(found["bottom"] <= edges(page, "section.script")["bottom"], f"{name} is over an edge at {height}")
+            holds(edges(page, "#command")["bottom"] <= script["bottom"], f"the prompt is over an edge at {height}")
         page.tab.resize(1440, 500)
         scroller = edges(page, "#scroller")
         holds(scroller["bottom"] - scroller["top"] < 0.6 * 500, "a long script is shown whole in a window of 500")
         page.tab.resize(640, 320)
-        same(page.value("getComputedStyle(document.querySelector('.steps')).position"), "static",
+        found = edges(page, "#step")
+        holds(found["top"] >= 0 and found["bottom"] <= 320, "step isn't in sight in a window of 320")
+        page.tab.resize(640, 220)
+        same(page.value("getComputedStyle(document.querySelector('footer')).position"), "static",
              "how the steps stand where they would hide much of what is seen")
 
 
@@ -110,36 +121,50 @@ def check_hint_below(bench):
 
 
 def check_one_below_another(bench):
-    """In a narrow window a reply stands below its line, a long script has its own scrolling, and the end is seen."""
+    """In a narrow window one pane is seen at a time; there a reply stands below its line."""
+    panes = ("memory", "script", "messages")
     with bench.kept_page() as page:
         page.tab.resize(420, 700)
+        page.load("transfer")
+        page.click("run")
+        found = []
+        for pane in panes:
+            page.show_pane(pane)
+            pressed = page.value("[...document.querySelectorAll('#panes [aria-pressed=true]')].map((it) => it.value)")
+            found.append([page.seen(*panes), pressed])
+        same(found, [[[it], [it]] for it in panes], "the panes that are seen, and the buttons that are pressed")
         page.load("hello")
+        same(page.value("[...document.querySelectorAll('#panes button')].filter((it) => it.checkVisibility())"
+                        ".map((it) => it.textContent)"), ["Memory", "Script"], "the panes without messages")
+        holds(page.seen("memory") == ["memory"], "no pane is seen when there are no messages any more")
+        page.show_pane("script")
         page.click("run")
         line, reply = (edges(page, f"#lines > li:nth-child(2) {it}") for it in ("textarea", ".reply"))
         holds(reply["top"] >= line["bottom"] - 1 and abs(reply["left"] - line["left"]) < 8, "a reply isn't below")
         page.drop_bytes("long.desk", b"areas\n" * 100)
         scroller = edges(page, "#scroller")
-        holds(scroller["bottom"] - scroller["top"] < 0.6 * 700, "a long script is shown whole")
-        holds(edges(page, "section.memory")["top"] >= edges(page, "section.script")["bottom"], "memory isn't below")
-        page.value("scrollTo(0, document.body.scrollHeight)")
-        holds(edges(page, "footer p")["bottom"] <= edges(page, ".steps")["top"], "the steps hide the page's end")
+        holds(scroller["bottom"] - scroller["top"] < 0.7 * 700, "a long script is shown whole")
+        holds(edges(page, "section.script")["bottom"] <= edges(page, "footer")["top"], "the steps hide the script's end")
 
 
 def check_focus_in_sight(bench):
     """In a narrow window the steps at its end hide nothing that gets the focus."""
     with bench.page() as page:
-        page.tab.resize(420, 700)
-        page.load("transfer")
-        page.click("run")
-        page.focus("#examples")
-        while page.value(f"{FOCUSED}.id") != "save-sheet":
-            page.tab.key("Tab")
-            is_step = page.value(f"{FOCUSED}.closest('.steps') !== null")
-            found = page.value(EDGES % FOCUSED)
-            holds(is_step or found["bottom"] <= edges(page, ".steps")["top"] + 1,
-                  f"the steps hide {page.focused()}, which has the focus")
+        for pane in ("memory", "script", "messages"):
+            page.tab.resize(420, 700)
+            page.load("transfer")
+            page.click("run")
+            page.show_pane(pane)
+            page.focus("#examples")
+            while page.value(f"{FOCUSED}.id") != "back":
+                page.tab.key("Tab")
+                is_step = page.value(f"{FOCUSED}.closest('footer') !== null")
+                top = page.value(TOP_OF_FOCUSED)
+                holds(is_step or 0 <= top + 1 and top < edges(page, "footer")["top"],
+                      f"the steps hide {page.script('focused.js')}, which has the focus, in {pane}")
+        page.show_pane("script")
         page.focus("#lines > li:nth-child(2) textarea")
-        page.value("scrollTo(0, document.body.scrollHeight)")
+        page.value("document.querySelector('#scroller').scrollTop = 10000")
         page.tab.key("ArrowDown")
         found = page.value(EDGES % FOCUSED)
         same([page.focused(), found["top"] >= 0, found["bottom"] <= edges(page, ".steps")["top"] + 1],
@@ -147,17 +172,18 @@ def check_focus_in_sight(bench):
 
 
 def check_on_paper(bench):
-    """On paper all lines are seen, and memory behind them."""
+    """On paper all lines are seen with what is told of them, memory is, and no controls are."""
     with bench.kept_page() as page:
         page.drop_bytes("long.desk", b"areas\n" * 100)
         page.click("run")
         for width, height in ((1440, 900), (760, 1080)):
             page.tab.resize(width, height)
             page.tab.call("Emulation.setEmulatedMedia", media="print")
-            same([page.value(CUT_OFF % it) > 1 for it in ("#scroller", "section.script")], [False, False],
-                 f"whether lines are cut off on paper, at {width}")
-            same(page.value("getComputedStyle(document.querySelector('section.script')).position"), "static",
-                 "how the script stands on paper")
+            same([page.value(CUT_OFF % it) > 1 for it in ("#scroller", "section.script", ".frame", ".beside", "main")],
+                 [False] * 5, f"whether something is cut off on paper, at {width}")
+            same(page.seen("script", "memory", "picture", "step", "prompt", "tools", "views", "panes", "hint"),
+                 ["script", "memory", "picture"], f"what is on paper, at {width}")
+            holds(page.value("getComputedStyle(document.body).height") != f"{height}px", "the page is as high as a window")
             page.tab.call("Emulation.setEmulatedMedia", media="")
 
 
@@ -168,6 +194,7 @@ def check_edges(bench):
         page.click("step")
         for is_dark in (False, True):
             page.tab.resize(1440, 900, is_dark)
+            page.click("file-button")
             for name in ("open", "name", "pages", "add", "command", "back", "step", "examples"):
                 page.focus(f"#{name}")
                 page.tab.key("Tab")
@@ -241,3 +268,17 @@ def check_dark_steps(bench):
             mark = page.value("getComputedStyle(document.querySelector('#changes li'), '::marker').color")
             found = page.value(FRESH_COLOURS)
             holds(found == [mark] or not found and name != "hello", f"{found} marks changes at step {count} of {name}")
+
+
+def check_changed_blocks(bench):
+    """The edge of a flex block that has changed stands out from the line of paper inside, and that from the block."""
+    with bench.kept_page() as page:
+        for is_dark in (False, True):
+            page.tab.resize(1440, 900, is_dark)
+            for name in ("hello", "sliding", "transfer", "eight-transfers"):
+                page.load(name)
+                for _ in range(4):
+                    page.click("step")
+                for colours in page.value(FLEX_EDGES):
+                    found = [contrast(*pair) for pair in zip(colours, colours[1:])]
+                    holds(min(found) >= LEAST_CONTRAST_OF_EDGES, f"{colours} in {name} have contrasts {found}")

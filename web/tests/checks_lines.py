@@ -52,6 +52,7 @@ def check_as_high_as_text(bench):
         page.tab.type("9")
         same(page.value(OTHER_HEIGHTS), [], "lines that aren't as high as what is left")
         page.tab.resize(420, 900)
+        page.show_pane("script")
         page.tab.wait(lambda: not page.value(OTHER_HEIGHTS), "lines aren't as high as their texts in a narrow window")
 
 

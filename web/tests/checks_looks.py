@@ -20,20 +20,25 @@ FIELDS = ("#name", "#command", "#lines textarea", "#files input")
 HELPED = f"""Object.fromEntries({list(FIELDS)!r}.map((it) => [it, document.querySelector(it)]).map(([name, it]) =>
   [name, ['spellcheck', 'autocapitalize', 'autocomplete'].map((word) => it.getAttribute(word))]))"""
 # What can be used, as it is told to those who listen, and what has to be named there.
-USED = ("button", "textbox", "combobox", "spinbutton", "radio", "region", "image", "DisclosureTriangle")
+USED = ("button", "textbox", "searchbox", "combobox", "spinbutton", "slider", "checkbox", "radio", "region", "image",
+        "DisclosureTriangle")
 
 # The names of what has several parts, as they are told.
-GROUPS = {"region": ["Script", "Memory"], "list": ["Files that the script may load",
+GROUPS = {"region": ["Story", "Script", "Memory", "Messages"], "list": ["Files that the script may load",
                                                    "Lines of the script, with their replies"],
           "group": ["Scripts", "Steps", "Shown as", "Pool of pages", "Slots and module area"]}
 
 # The headings of the page with their levels, and its parts as those who listen go from one to the next.
-HEADINGS = {"Vervainfile": 1, "Keys": 2, "Commands": 2, "Script": 2, "Memory": 2, "What is proved": 2}
-LANDMARKS = [("banner", ""), ("contentinfo", ""), ("main", ""), ("region", "Keys"), ("region", "Memory"),
+HEADINGS = {"Vervainfile": 1, "Commands": 2, "Keys": 2, "What is proved": 2, "Script": 2, "Memory": 2,
+            "The memory of a small desktop": 2, "Tasks": 3, "Flex blocks": 3, "C heap": 3, "Files handed over": 3,
+            "Areas of pages": 3, "Refusals: a command that is refused changes nothing": 3}
+LANDMARKS = [("banner", ""), ("contentinfo", ""), ("main", ""), ("region", "Commands"), ("region", "Memory"),
              ("region", "Script")]
 # What the fields of the page are to those who listen.
-CONTROLS = [("combobox", "Load an example or a lesson"), ("radio", "Map"), ("radio", "Picture"),
-            ("spinbutton", "Pages"), ("textbox", "Command"), ("textbox", "Name")]
+CONTROLS = [("checkbox", "Predict"), ("combobox", "Load a lesson or an example"),
+            ("searchbox", "Find a command or a refusal"), ("slider", "Commands that have run"), ("textbox", "Command")]
+# The fields that are there when a script is, and the panel of the file is open.
+MORE_CONTROLS = [("radio", "Map"), ("radio", "Picture"), ("spinbutton", "Pages"), ("textbox", "Name")]
 
 # The colours and lines by which rows are told apart: those of the row, of its line, and of its reply.
 LOOKS = """[...document.querySelectorAll('#lines > li')].map((row) => {
@@ -49,18 +54,23 @@ UNEVEN = """['.row:not(.remark) .line', '.reply', '#map', '#command'].filter((se
 # How the focus is shown: how wide the line around it is.
 OUTLINE = "((style) => style.outlineStyle === 'none' ? 0 : parseFloat(style.outlineWidth))"
 # What is seen while a script runs, with a file and a notice, as something is typed.
-SEEN = ("h1", "#intro", "#examples", "#open", "#fresh", "#undo", "#save", "#copy", "#help-button", "#progress", "#name",
-        "#pages", "#add", "#files li", "#files input", "#files button", ".number", ".line", ".ok .reply", "#command",
-        "#prompt button", "#hint code", "#back", "#step", "#run", "#notice", "#views label", "#save-sheet", "#shown",
-        "#changes li", "#picture", "footer p")
+SEEN = {"": ("#examples", "#open", "#fresh", "#undo", "#redo", "#file-button", "#help-button", "#progress", "#slider",
+             "#back", "#step", "#run", "#predict", "#notice"),
+        "file-button": ("#name", "#pages", "#add", "#save", "#save-sheet", "#print", "#copy", "#copy-text", "#intro"),
+        "script": ("#files li", "#files input", "#files button", ".number", ".line", ".ok .reply", ".current .why",
+                   "#command", "#prompt button", "#hint code"),
+        "memory": ("#views label", "#shown", "#changes li", "#picture"), "messages": ("#chart",)}
+# What of some selectors isn't there, or isn't seen.
+UNSEEN = """%r.filter((selector) => [...document.querySelectorAll(selector)].some(
+  (it) => !it.checkVisibility({ opacityProperty: true, visibilityProperty: true })
+    || it.offsetWidth < 4 || it.offsetHeight < 4) || !document.querySelector(selector))"""
 # Which buttons of steps are seen whole in the window.
 AT_HAND = """['back', 'step', 'run'].filter((id) => ((it) => it.top >= 0 && it.bottom <= innerHeight && it.height > 0)(
   document.getElementById(id).getBoundingClientRect()))"""
 
 # The elements that the tab key reaches, in order.
-TAB_STOPS = ["examples", "open", "fresh", "undo", "save", "copy", "help-button", "name", "pages", "add", "Line 4",
-             "command", "Enter", "back", "step", "run", "Picture", "save-sheet", "Pool of pages",
-             "Slots and module area", "summary"]
+TAB_STOPS = ["examples", "open", "fresh", "undo", "redo", "file-button", "help-button", "Line 4", "command", "Enter",
+             "Picture", "Pool of pages", "Slots and module area", "summary", "back", "step", "run", "slider", "predict"]
 # Elements without an end, and attributes that name ids.
 VOID = {"meta", "link", "input", "br"}
 # What a browser has to know before anything is shown: language, characters, widths, colours.
@@ -177,9 +187,12 @@ def check_names(bench):
         holds(figures and all(it.description for it in figures), "a figure has no description")
         line = next(it for it in used if it.name == "Line 2")
         holds(line.description.startswith("ok"), "a line is told without its reply")
-        other = page.value("""[...document.querySelectorAll('#lines textarea')].filter((it) => it.nextElementSibling
-          !== document.getElementById(it.getAttribute('aria-describedby'))).map((it) => it.ariaLabel)""")
-        same(other, [], "which lines are told with other replies than their own")
+        other = page.value("""[...document.querySelectorAll('#lines textarea')].filter((it) =>
+          it.getAttribute('aria-describedby').split(' ').map((id) => document.getElementById(id)).some((told, at) =>
+            told !== [it.nextElementSibling, it.nextElementSibling.nextElementSibling][at])).map((it) => it.ariaLabel)""")
+        same(other, [], "which lines are told with other replies than their own, or with other reasons")
+        refused = next(it for it in used if it.role == "textbox" and "refused NoName" in it.description)
+        holds("No live task is called z." in refused.description, "a refusal is told without its reason")
         told = [Told(node) for node in nodes if not node["ignored"]]
         named = {(it.role, it.name) for it in told}
         same([(role, name) for role, names in GROUPS.items() for name in names if (role, name) not in named], [],
@@ -200,6 +213,11 @@ def check_headings(bench):
         landmarks, controls = ({role for role, _ in them} for them in (LANDMARKS, CONTROLS))
         same(sorted(it for it in told if it[0] in landmarks), LANDMARKS, "the parts of the page")
         same(sorted(it for it in told if it[0] in controls), CONTROLS, "the fields of the page")
+        page.enter("areas")
+        page.click("file-button")
+        nodes = [node for node in page.tab.call("Accessibility.getFullAXTree")["nodes"] if not node["ignored"]]
+        told = {(it.role, it.name) for it in map(Told, nodes)}
+        same([it for it in MORE_CONTROLS if it not in told], [], "the fields that are there with a script")
         live = "[...document.querySelectorAll('[role=status], [role=alert], [role=log], [aria-live]')]"
         same(page.value(f"{live}.map((it) => it.id)"), ["notice", "said"], "what is told as soon as it changes")
 
@@ -244,7 +262,7 @@ def check_seen_by_few(bench):
     with bench.kept_page() as page:
         show_story(page)
         sizes = page.value("[...document.querySelectorAll('.unseen')].map((it) => it.getBoundingClientRect().width)")
-        holds(len(sizes) == 3 and max(sizes) < 5, f"what isn't to be seen is {sizes} wide")
+        holds(len(sizes) == 5 and max(sizes) < 5, f"what isn't to be seen is {sizes} wide")
         holds(page.value("document.querySelector('#said').classList.contains('unseen')"), "what is said is seen")
         for stop in ("open", "command", "step"):
             page.focus(f"#{stop}")
@@ -252,7 +270,7 @@ def check_seen_by_few(bench):
             page.tab.key("Tab", "Shift")
             width = page.value(f"{OUTLINE}(getComputedStyle(document.activeElement))")
             holds(width >= 2, f"the focus on {stop} isn't seen")
-        page.focus("#save-sheet")
+        page.focus("[value=picture]")
         for frame in ("Pool of pages", "Slots and module area"):
             page.tab.key("Tab")
             same(page.script("focused.js"), frame, "what has the focus")
@@ -270,7 +288,7 @@ def check_seen_by_few(bench):
 
 
 def check_all_seen(bench):
-    """What the page tells and what can be used is seen, wide and narrow."""
+    """What the page tells and what can be used is seen, wide and narrow, there with its pane."""
     with bench.kept_page() as page:
         page.load("transfer")
         for _ in range(5):
@@ -280,10 +298,10 @@ def check_all_seen(bench):
         page.tab.type("s")
         for width in (1440, 420):
             page.tab.resize(width, 900)
-            unseen = page.value(f"""{list(SEEN)!r}.filter((selector) => [...document.querySelectorAll(selector)].some(
-              (it) => !it.checkVisibility({{ opacityProperty: true, visibilityProperty: true }})
-                || it.offsetWidth < 4 || it.offsetHeight < 4) || !document.querySelector(selector))""")
-            same(unseen, [], f"what isn't seen at {width}")
+            for place, found in SEEN.items():
+                page.value(f"document.querySelector('#{place}, #panes [value={place}]')?.click()" if place else "0")
+                unseen = page.value(UNSEEN % list(found))
+                same(unseen, [], f"what isn't seen at {width}, in {place or 'any pane'}")
 
 
 def check_at_hand(bench):

@@ -112,6 +112,9 @@ def check_bundle(_bench):
              "the script")
         told = fault_of(make.PageFault, lambda: make.bundle(dict(reversed(paths.items()))))
         same(told, "two.js stands before one.js", "what is told of parts in another order")
+        (folder / "four.js").write_text("async function b() {}\n")
+        told = fault_of(make.PageFault, lambda: make.bundle(paths | {"four.js": folder / "four.js"}))
+        same(told, "four.js and two.js both have the name b", "what is told of a name that two parts have")
         (folder / "three.js").write_text("// nothing\n")
         other = {name: folder / name for name in ("three.js", "two.js", "one.js")}
         told = fault_of(make.PageFault, lambda: make.bundle(other))
@@ -126,8 +129,18 @@ def check_made(bench):
 
 def check_tables(_bench):
     """The maker tells where the documents don't have what it takes from them."""
-    with written(docs__FORMATS_md="# Formats\n") as folder, unittest.mock.patch.object(make, "TOP", folder):
-        same(fault_of(make.PageFault, make.forms), "docs/FORMATS.md has no forms of commands", "what is told")
+    lesson = "| 1 | `a.desk` | a lesson |\n\n## 1. A\n\n**Question 1.** Why?\n\n*Answer.* So.\n\n*Check.* %s\n"
+    for check, told in (("After 6. Size: line 2, word 1.", "After 6. Size: line 2, word 1."),
+                        ("After line 6. Size: word 1.", "Size: word 1"),
+                        ("After line 6. Size: line 2, word 1; line 3.", "line 3"),
+                        ("After line 6. Size: areas, word 1.", "Size: areas, word 1")):
+        with written(docs__LESSONS_md=lesson % check, examples__lessons__a_desk="areas\n") as folder, \
+                unittest.mock.patch.object(make, "TOP", folder):
+            same(fault_of(make.PageFault, make.questions), f"docs/LESSONS.md has a check that can't be read: {told}",
+                 f"what is told of {check}")
+    with written(README_md="| About | Scripts |\n|---|---|\n| b | `b` (a b) |\n", examples__a_desk="areas\n",
+                 docs__LESSONS_md="") as folder, unittest.mock.patch.object(make, "TOP", folder):
+        same(fault_of(make.PageFault, make.examples), "README.md has no title for examples/a.desk", "what is told")
     with written(page_html="<p>nothing</p>") as folder:
         told = fault_of(make.PageFault, lambda: make.module_of(folder / "page.html"))
         same(told, "page.html holds no module", "what is told of no module")

@@ -82,4 +82,8 @@ def check_map_or_picture(bench):
         same([page.seen("changes", "picture", "map"), page.text("changes")], [["changes", "picture"], told],
              "what is seen with a picture")
         page.click("undo")
-        same(page.seen("changes", "picture", "map", "nothing"), ["nothing"], "what is seen without a step")
+        same(page.seen("changes", "picture", "map", "nothing", "empty"), ["empty"], "what is seen without a script")
+        page.click("redo")
+        page.value("document.querySelector('#slider').value = 0;"
+                   "document.querySelector('#slider').dispatchEvent(new Event('input'))")
+        same(page.seen("changes", "picture", "map", "nothing", "empty"), ["nothing"], "what is seen without a step")

@@ -5,16 +5,20 @@ import re
 import native
 from bench import TOP, holds, run_text, same
 
-BUTTONS = ("undo", "save", "copy", "back", "step", "run", "save-sheet")
+BUTTONS = ("undo", "redo", "save", "save-sheet", "print", "copy", "copy-text", "back", "step", "run")
 # What help says of keys, and what stands on buttons.
-KEYS = {"Enter": "enters the command; in a line, runs all of it anew and goes to the next",
-        "↑ ↓": "at the prompt, what was entered before; in a line, the lines around it", "F8": "runs the next command",
-        "Shift F8": "goes back by one command", "F9": "runs all lines", "Ctrl Enter": "in a line, runs up to it",
-        "Shift Enter": "in a line, begins one more", "Backspace": "in an empty line, takes it away",
-        "Esc": "gives back what was there before"}
-NAMES = {"open": "Open…", "fresh": "New", "undo": "Undo", "save": "Save script", "copy": "Copy link",
-         "help-button": "Help", "add": "Add files…", "back": "Back", "step": "Step", "run": "Run all",
-         "save-sheet": "Save all pictures"}
+KEYS = {"F8": "runs the next command", "Shift F8": "goes back by one command", "F9": "runs all lines",
+        "Enter": "enters the command; in a line, runs all of it anew and goes to the next",
+        "Tab": "at the prompt, completes the word; again, takes the next one that fits",
+        "↑ ↓": "at the prompt, what was entered before; in a line, the lines around it",
+        "Ctrl Enter": "in a line, runs up to it", "Shift Enter": "in a line, begins one more",
+        "Backspace": "in an empty line, takes it away",
+        "Ctrl Z": "takes the last change back, where nothing is being typed", "Ctrl Y": "makes it again",
+        "F1": "opens this help", "Esc": "gives back what was there before; closes what lies over the page"}
+NAMES = {"open": "Open…", "fresh": "New", "undo": "Undo", "redo": "Redo", "file-button": "File…", "help-button": "Help",
+         "file-close": "Close", "add": "Add files…", "save": "Save script", "save-sheet": "Save all pictures",
+         "print": "Print", "copy": "Copy link", "copy-text": "Copy script as text", "help-close": "Close",
+         "compare": "Compare", "back": "Back", "step": "Step", "run": "Run all"}
 # The examples that are offered: of each group its label, and names and titles.
 OFFERED = """[...document.querySelectorAll('#examples optgroup')].map((group) =>
   [group.label, [...group.children].map((it) => [it.value, it.textContent])])"""
@@ -37,14 +41,14 @@ def check_at_first(bench):
         same(page.seen("unsupported", "help", "notice", "earlier", "later", "picture", "map", "changes"), [],
              "what is seen and shouldn't be")
         same([page.text(it) for it in ("progress", "hint", "said", "shown")], [""] * 4, "what is told")
-        same(page.text("nothing"), "Nothing has run yet. Type a command at the prompt, or load an example.",
-             "what stands in place of a picture")
         same(page.disabled(), list(BUTTONS), "the buttons that do nothing")
         fields = "[...document.querySelectorAll('#pages, [type=file]')]"
         same(page.value(f"{fields}.map((it) => [it.min, it.max, it.accept])"),
              [["", "", ".desk,.txt,text/plain"], ["8", "1024", ""], ["", "", ""]], "what fields take")
+        same(page.value("[...document.querySelectorAll('#lessons button')].map((it) => it.innerText.split('\\n')[0])"),
+             list("123456"), "the lessons that are offered")
         same(page.value("[...document.querySelector('#examples').selectedOptions].map((it) => [it.value, it.text])"),
-             [["", "Load an example…"]], "what stands where examples are chosen")
+             [["", "Lessons and examples…"]], "what stands where examples are chosen")
         for name in BUTTONS:
             page.click(name)
         same([page.text("notice"), page.value("location.hash"), page.rows()], ["", "", []], "what the buttons did")
@@ -61,22 +65,25 @@ def check_buttons(bench):
     """Buttons do nothing where they have nothing to do: at the first line, at the last, and without a change."""
     with bench.page() as page:
         page.load("hello")
-        same(page.disabled(), ["back"], "the buttons that do nothing at the first line")
+        same(page.disabled(), ["redo", "back"], "the buttons that do nothing at the first line")
         same([page.text("said"), page.text("shown")], ["No line has run.", ""], "what is told then")
         same(page.text("nothing"), "Nothing has run yet. Step runs the next command, Run all runs every line.",
              "what stands in place of a picture")
         same(page.seen("empty", "nothing"), ["nothing"], "what is seen")
         page.click("step")
-        same([page.disabled(), page.seen("nothing", "picture")], [[], ["picture"]], "what is left then")
+        same([page.disabled(), page.seen("nothing", "picture")], [["redo"], ["picture"]], "what is left then")
         page.click("run")
-        same(page.disabled(), ["step", "run"], "the buttons that do nothing at the last line")
+        same(page.disabled(), ["redo", "step", "run"], "the buttons that do nothing at the last line")
         page.click("back")
-        same([page.text("progress"), page.disabled()], ["6 of 7 lines have run", []],
+        same([page.text("progress"), page.disabled()], ["6 of 7 lines have run", ["redo"]],
              "the buttons that do nothing before the last line")
         page.click("step")
         same(page.text("progress"), "7 of 7 lines have run", "where the script stands after the last step")
         page.click("undo")
-        same(page.disabled(), list(BUTTONS), "the buttons that do nothing when all is taken back")
+        same(page.disabled(), [it for it in BUTTONS if it != "redo"],
+             "the buttons that do nothing when all is taken back")
+        page.click("redo")
+        same([len(page.rows()), page.disabled()], [7, ["redo", "step", "run"]], "what Redo brings back")
 
 
 def check_remarks_alone(bench):
@@ -98,7 +105,7 @@ def check_counts(bench):
     """One line, one reply and one character are told as one; replies that aren't shown aren't counted."""
     with bench.kept_page() as page:
         page.enter("areas")
-        same([page.text("progress"), page.disabled()], ["1 of 1 line has run", ["step", "run"]],
+        same([page.text("progress"), page.disabled()], ["1 of 1 line has run", ["redo", "step", "run"]],
              "what is told of one line")
         page.set_pages(8)
         same(page.text("progress"), "1 of 1 line has run; 1 reply has changed", "what is told of one reply")
@@ -184,6 +191,7 @@ def check_typed_settings(bench):
     with bench.kept_page() as page:
         page.drop_bytes("a.desk", b"areas\n")
         for name, text, key in (("pages", "8", "F9"), ("name", "typed", "F8")):
+            page.value("document.querySelector('#file').hidden = false")
             page.focus(f"#{name}")
             page.value("document.activeElement.select()")
             page.tab.type(text)
@@ -201,7 +209,7 @@ def check_link_by_hand(bench):
         page.tab.wait(lambda: page.text("notice"), "nothing is told of a link that isn't copied")
         same(page.text("notice"), "This is the link; it is in the address bar too:", "what is told of the link")
         holds(not page.value("document.querySelector('#notice').className"), "the link is told as a fault")
-        field = "document.querySelector('#notice input')"
+        field = "document.querySelector('#notice textarea')"
         same(page.value(f"{field}.value"), page.value("location.href"), "the link that is shown")
         same(page.value("getSelection().toString() || document.activeElement.value.slice("
                         "document.activeElement.selectionStart, document.activeElement.selectionEnd)"),
@@ -224,7 +232,9 @@ def check_offered(bench):
         found = [name for group in offered.values() for name, _ in group]
         same((sorted(found), list(offered)[:2]), (sorted(names), ["First", "Lessons"]), "the examples")
         for topic, about in topics.items():
-            same(offered[topic], [[it, it] for it in about], f"the examples about {topic}")
+            same([name for name, _ in offered[topic]], about, f"the examples about {topic}")
+            holds(all(title.startswith(f"{name}: ") and len(title) > len(name) + 5 for name, title in offered[topic]),
+                  f"an example about {topic} has no title")
         same([title[:3] for _, title in offered["Lessons"]], [f"{it}. " for it in lessons], "the lessons' numbers")
         same(offered["Lessons"][0], ["lessons/holes", "1. A heap, and the holes in it"], "the first lesson")
 
@@ -255,7 +265,7 @@ def check_examples_again(bench):
         same(page.field("examples"), "hello", "the example when it is changed")
         page.load("lessons/holes")
         page.click("undo")
-        same([page.field("name"), page.field("examples")], ["hello.desk", ""], "the example that was there before")
+        same([page.field("name"), page.field("examples")], ["hello.desk", "hello"], "the example that was there before")
         page.load("")
         same(page.field("name"), "hello.desk", "the script when none of the examples is chosen")
 
@@ -270,9 +280,9 @@ def check_first_commands(bench):
 
 
 def check_program(bench):
-    """The commands that the page names at its end are the native program's, and write what the page shows."""
+    """The commands that help names are the native program's, and write what the page shows."""
     with bench.kept_page() as page:
-        named = page.value("[...document.querySelectorAll('footer code')].map((it) => it.textContent)")
+        named = page.value("[...document.querySelectorAll('#proved code')].map((it) => it.textContent)")
         same(named[0].split()[0], native.PROGRAM.name, "the program that is named")
         found = [native.done(name.split()[-1], native.Job(b"areas\n")) for name in named]
         same([status for status, _ in found], [0, 0, 0], f"what the program gives for {named}")
@@ -280,10 +290,21 @@ def check_program(bench):
         same(page.value("lastText"), found[0][1].decode(), "the replies of the first")
 
 
-def check_help(bench):
-    """Help comes and goes; it has the form of each command, and the keys."""
+def forms_of_docs():
+    """The forms of commands, as docs/FORMATS.md has them."""
     block = (TOP / "docs/FORMATS.md").read_text().partition("```\ntask NAME")[2].partition("```")[0]
-    forms = sorted(re.split(" {2,}|\n", f"task NAME{block}".strip()))
+    return re.split(" {2,}|\n", f"task NAME{block}".strip())
+
+
+def refusals_of_docs():
+    """The names of refusals, as docs/DESK.md has them."""
+    table = (TOP / "docs/DESK.md").read_text().partition("| Refusal | When |\n|---|---|\n")[2].partition("\n\n")[0]
+    return re.findall(r"^\| (\w+) \|", table, re.MULTILINE)
+
+
+def check_help(bench):
+    """Help comes and goes; it has the form of each command, each refusal, and the keys; what is sought stands alone."""
+    terms = "[...document.querySelectorAll('#forms dt')].filter((it) => it.checkVisibility()).map((it) => it.innerText)"
     button = "document.querySelector('#help-button')"
     with bench.kept_page() as page:
         found = [[page.value(f"{button}.ariaExpanded"), page.seen("help")]]
@@ -291,7 +312,16 @@ def check_help(bench):
             page.click("help-button")
             found.append([page.value(f"{button}.ariaExpanded"), page.seen("help")])
         same(found, [["false", []], ["true", ["help"]], ["false", []]], "how help comes and goes")
-        same(page.value("[...document.querySelectorAll('#forms li')].map((it) => it.textContent)"), forms, "the forms")
+        page.tab.key("F1")
+        same([page.seen("help"), page.focused()], [["help"], "find"], "what F1 opens, and what has the focus")
+        same(sorted(page.value(terms)), sorted([*forms_of_docs(), *refusals_of_docs()]), "the forms and the refusals")
+        page.tab.type("budge")
+        page.value("document.activeElement.dispatchEvent(new Event('input'))")
+        same(page.value(terms), ["budge NAME on", "budge NAME off", "NoBudge"], "what is found of budge")
+        page.value("document.activeElement.value = 'xyzzy'; document.activeElement.dispatchEvent(new Event('input'))")
+        same([page.value(terms), page.seen("none-found")], [[], ["none-found"]], "what is found of nothing")
+        page.tab.key("Escape")
+        same([page.seen("help"), page.focused()], [[], "help-button"], "what Escape closes, and what has the focus")
         same(page.value(f"{button}.getAttribute('aria-controls')"), "help", "what the button is for")
         keys = page.value("[...document.querySelectorAll('.keys dt')].map((it) => [it.textContent, "
                           "it.nextElementSibling.textContent])")

@@ -48,7 +48,10 @@ def check_hint(bench):
     with bench.kept_page() as page:
         page.tab.type("budge ")
         same(page.value("[...document.querySelectorAll('#hint code')].map((it) => it.textContent)"),
-             ["budge NAME off", "budge NAME on"], "the forms")
+             ["budge NAME on", "budge NAME off"], "the forms")
+        page.tab.type("a o")
+        same(page.value("[...document.querySelectorAll('#hint b')].map((it) => it.textContent)"), ["on", "off"],
+             "the word that is being typed")
 
 
 def check_steps(bench):

@@ -120,6 +120,10 @@ class DeskPage:
         self.click("save")
         return self.tab.downloaded(name)
 
+    def show_pane(self, name):
+        """Chooses what is seen where there is room for one pane."""
+        self.value(f"document.querySelector('#panes [value={name}]').click()")
+
     def load(self, name):
         """Chooses an example."""
         self.set_value("#examples", name)

@@ -7,6 +7,7 @@ import chromium
 import outcome
 from bench import Bench, Wrong
 
+import checks_class
 import checks_files
 import checks_kept
 import checks_layout
@@ -20,11 +21,11 @@ import checks_told
 import checks_use
 
 CHECKS = (checks_replies, checks_use, checks_lines, checks_files, checks_kept, checks_told, checks_picture,
-          checks_modules, checks_maker, checks_looks, checks_layout)
+          checks_modules, checks_maker, checks_looks, checks_layout, checks_class)
 # So many tests go wrong before the others are given up: each may wait long for a page that doesn't begin.
 MOST_WRONG = 5
 # Tests of how long something takes, which no share has: other work beside them would count.
-TIMED = ("long_scripts",)
+TIMED = ("long_scripts", "quick_steps")
 
 
 def checks():

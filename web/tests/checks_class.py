@@ -1,0 +1,482 @@
+"""What a class does with the page: the story and its questions, predictions, explanations, completion, undo, links."""
+
+import json
+import re
+
+import native
+from bench import TOP, holds, same
+from checks_told import forms_of_docs, refusals_of_docs
+
+import make
+
+# The windows in which a class may see the page: of classrooms' screens, of tablets, and of phones.
+WINDOWS = ((1280, 720), (1366, 768), (1440, 900), (1920, 1080), (1024, 768), (820, 1180), (390, 844), (360, 640))
+# What has to be in sight at each step, and how much of it at least.
+IN_SIGHT = {"#step": 20, "#back": 20, "#slider": 10, "#shown": 14, "#frame": 110}
+# How much of each element is in the window, and of a picture the window's part that it begins in; and what is scrolled.
+SEEN_HEIGHTS = """((names) => [names.map((name) => {
+  const { top, bottom } = document.querySelector(name).getBoundingClientRect();
+  return Math.min(bottom, innerHeight) - Math.max(top, 0);
+}), scrollY, document.documentElement.scrollHeight - innerHeight])"""
+# A step at which the figure isn't at the beginning of its frame.
+SCROLLED = "document.querySelector('#frame').scrollTop"
+# Words that stand in place of those of a form.
+SAMPLES = {"NAME": "a", "TO": "b", "FILE": "f", "A": "0", "BUF": "9", "N": "5", "OFF": "0", "AT": "0", "DELTA": "-4",
+           "BY": "4", "K": "256", "MAX": "4", "ID": "1", "ADDR": "&8114", "HEX": "6869", "LEAF": "x!"}
+# Words that a form of each kind doesn't take.
+OTHERS = {"NAME": "1a", "TO": "a-b", "FILE": "x" * 13, "A": "64", "BUF": "0", "N": "-1", "OFF": "2147483648", "AT": "x",
+          "DELTA": "+4", "BY": "&4", "K": "65536", "MAX": "1025", "ID": "0", "ADDR": "8114", "HEX": "6", "LEAF": "x" * 11}
+WHY = "[...document.querySelectorAll('#lines > li')].map((it) => it.querySelector('.why').textContent)"
+FIXES = "[...document.querySelectorAll('#lines .fix')].map((it) => it.textContent)"
+WORDS = "[...document.querySelectorAll('#hint .word')].map((it) => it.textContent)"
+TOLD = "document.querySelector('.question[open] .told').textContent"
+TALE = "['.title', '.tale'].map((it) => document.querySelector(it).textContent)"
+# A site that forbids the module, as a header of its answer does.
+STRICT = "<meta http-equiv=\"Content-Security-Policy\" content=\"script-src 'unsafe-inline'\">"
+
+
+def lines(page):
+    return [row["line"] for row in page.rows()]
+
+
+def press(page, key, *modifiers):
+    page.tab.key(key, *modifiers)
+
+
+def names_of_examples(width):
+    """The examples that are walked through in a window: in most of them the lessons and some others."""
+    names = list(make.examples_by_name())
+    return names if width in (1280, 390) else [it for it in names if it.startswith("lessons/")] + ["transfer"]
+
+
+def check_windows(bench):
+    """In each window the steps and the picture are in sight at each step, and the page itself isn't scrolled."""
+    names = json.dumps(list(IN_SIGHT))
+    with bench.kept_page() as page:
+        for width, height in WINDOWS:
+            page.tab.resize(width, height)
+            for name in names_of_examples(width):
+                page.load(name)
+                for _ in range(min(30, len(make.examples_by_name()[name]["text"].splitlines()))):
+                    page.click("step")
+                    found, scrolled, over = page.value(f"{SEEN_HEIGHTS}({names})")
+                    short = {it: seen for (it, least), seen in zip(IN_SIGHT.items(), found) if seen < least}
+                    same([short, scrolled, max(0, over)], [{}, 0, 0],
+                         f"what isn't in sight, and what is scrolled, in {name} at {page.text('shown')[:20]}, "
+                         f"{width} by {height}")
+            bench.picture(page, f"window-{width}-{height}")
+
+
+def check_story(bench):
+    """The remark before a command stands beside it until the next one; a title at its command alone."""
+    with bench.kept_page() as page:
+        page.load("lessons/holes")
+        remark = "A heap hands out blocks from below. Each has a word in front of it for its size, and takes a multiple"
+        holds(page.value(TALE)[1].startswith(remark), "the first remark isn't told before the first step")
+        found = []
+        for _ in range(7):
+            page.click("step")
+            found.append(page.value(TALE))
+        same([title for title, _ in found], [""] * 5 + ["Three blocks, one after the other", "A hole between two blocks"],
+             "the titles")
+        same([tale[:19] for _, tale in found], [remark[:19]] * 5 + ["", "A block in the midd"],
+             "the remarks, of which a title behind commands ends one")
+        page.drop_bytes("plain.desk", b"areas\n")
+        same(page.seen("story"), [], "what is told of a script without remarks")
+        page.drop_bytes("told.desk", b"# one\n# two\nareas\n")
+        same([page.seen("story"), page.value(TALE)], [["story"], ["", "one two"]], "what is told of a remark of two lines")
+
+
+def check_questions(bench):
+    """A lesson asks each question behind its line; right answers are told from wrong ones, and can be shown."""
+    form = "document.querySelector('.question[open] form')"
+    with bench.page() as page:
+        page.load("lessons/holes")
+        same(page.value("document.querySelectorAll('.question').length"), 0, "the questions before the first step")
+        for _ in range(8):
+            page.click("step")
+        same(page.value("document.querySelector('.question summary').textContent"), "Question 3", "what is asked")
+        same(page.value(f"[...{form}.querySelectorAll('label')].map((it) => it.textContent)"), ["308 bytes", "309 bytes"],
+             "the fields")
+        page.value(f"{form}.querySelector('input').focus()")
+        page.tab.type("824c")
+        press(page, "Enter")
+        same([page.value(TOLD), page.value(f"[...{form}.querySelectorAll('input')].map((it) => it.ariaInvalid)")],
+             ["Not so: 309 bytes is another one. Look at the picture, and try again.", ["false", "true"]],
+             "what is told of half an answer")
+        page.value(f"{form}.querySelectorAll('input')[1].focus()")
+        page.tab.type("&84BC")
+        press(page, "Enter")
+        holds(page.value(TOLD).startswith("Right. With 308 bytes it needs 312"), "a right answer isn't told as such")
+        same(page.value("document.querySelector('.score').textContent"), "1 of 4 answered", "how many are answered")
+        page.click("back")
+        page.value(f"{form}.querySelector('.plain').click()")
+        holds(page.value(TOLD).startswith("2884. The hole has 312"), "an answer isn't shown")
+        same(page.value("document.querySelector('.score').textContent"), "1 of 4 answered", "how many are answered then")
+        page.edit(2, "task a 90")
+        holds("questions are about it as it was" in page.text("story"), "nothing is told of a lesson that was changed")
+        page.load("hello")
+        same(page.value("document.querySelectorAll('.question, .lesson:not([hidden])').length"), 0,
+             "the questions of another example")
+
+
+def check_lessons(bench):
+    """Each right answer is a word of the native program's reply, the document tells it, and the page takes it."""
+    count = 0
+    with bench.kept_page() as page:
+        for name, questions in make.questions().items():
+            script = make.text_of(name).splitlines()
+            page.load(name)
+            for number, question in enumerate(questions, 1):
+                page.value(f"document.querySelectorAll('#lines .number')[{question['after'] - 1}].click()")
+                rights = [right_answer(script, field) for field in question["fields"]]
+                for right in rights:
+                    holds(re.search(rf"(?<![\w&]){re.escape(right)}\b", question["answer"]),
+                          f"the answer to question {number} of {name} doesn't tell {right}")
+                    count += 1
+                found = page.value(ANSWER_ALL % (number, json.dumps(rights)))
+                wanted = "Right. " if rights else ""
+                holds(found.startswith(wanted) and len(found) > 20, f"question {number} of {name} tells {found}")
+    holds(count > 16, f"only {count} answers were looked at")
+
+
+# Opens a question by its number, gives it answers, and gives what is told: of a question without fields its answer.
+ANSWER_ALL = """((number, rights) => {
+  const question = [...document.querySelectorAll('.question')].find((it) =>
+    it.querySelector('summary').textContent.startsWith(`Question ${number}`));
+  question.open = true;
+  [...question.querySelectorAll('input')].forEach((field, at) => field.value = rights[at]);
+  question.querySelector(rights.length ? '.check' : '.plain').click();
+  return question.querySelector('.told').textContent;
+})(%d, %s)"""
+
+
+def right_answer(script, field):
+    """The word of the native program's reply that is the right answer to a field."""
+    text = "".join(f"{it}\n" for it in [*script[: field["upTo"]], *field["then"]])
+    replies = re.split(r"\n(?! {2})", native.done("run", native.Job(text.encode()))[1].decode().rstrip("\n"))
+    return replies[-1].split("\n")[field["row"] - 1].split()[field["word"] - 1]
+
+
+def check_predictions(bench):
+    """With Predict a step compares what was guessed with the reply; nothing guessed isn't counted."""
+    with bench.kept_page() as page:
+        page.load("lessons/holes")
+        same(page.seen("guess"), [], "what is seen without Predict")
+        page.click("predict")
+        same([page.seen("guess"), page.focused(), page.value("document.querySelector('#guess-asks').innerText")],
+             [["guess"], "guessed", "Line 2 is task a 100. What will the desk reply?"], "what is asked")
+        told = []
+        for guess, key in (("ok 1", "F8"), ("", "Enter"), ("8114", "Enter"), ("ok &9", "F8"), ("no", "F8")):
+            page.tab.type(guess) if guess else None
+            press(page, key)
+            told.append(page.text("guess-told"))
+        same(told, ["Right: ok 1 (1 of 1)", "It is: ok 3840 3820 3824", "Right: ok &8114 (2 of 2)",
+                    "Nearly: ok &824C (2 of 3)", "No: ok &8384 (2 of 4)"], "what is told of guesses")
+        same([page.focused(), page.field("guessed"), page.text("progress")], ["guessed", "", "6 of 23 lines have run"],
+             "what has the focus, and where the script stands")
+        page.click("run")
+        same([page.seen("guess", "guessed", "compare"), page.disabled()], [["guess"], ["redo", "step", "run"]],
+             "what is left of it at the end")
+        page.load("hello")
+        same(page.text("guess-told"), "", "what is told of another script")
+
+
+def check_slider(bench):
+    """The slider goes through the commands, by keys too, and tells the line; ticks show titles and questions."""
+    with bench.kept_page() as page:
+        page.load("lessons/holes")
+        slider = "document.querySelector('#slider')"
+        same(page.value(f"[{slider}.max, {slider}.value, {slider}.ariaValueText]"),
+             ["15", "0", "before the first command"], "the slider at first")
+        page.focus("#slider")
+        for key, wanted in (("ArrowRight", "2 of 23"), ("End", "23 of 23"), ("ArrowLeft", "22 of 23"), ("Home", "0 of 23")):
+            press(page, key)
+            same(page.text("progress"), f"{wanted} lines have run", f"where the script stands after {key}")
+        page.tab.key("F8")
+        same([page.focused(), page.value(f"{slider}.ariaValueText")], ["slider", "line 2, task a 100: ok 1"],
+             "what is told of the slider after a step")
+        ticks = "[...document.querySelectorAll('#ticks i')].map((it) => it.className)"
+        same(page.value(ticks), ["", "", "", "", "asks", "titled", "titled asks", "asks", "titled", "", "", "titled",
+                                 "asks", "", ""], "the ticks")
+        page.drop_bytes("long.desk", b"areas\n" * 121)
+        same(page.value(f"[{slider}.max, document.querySelectorAll('#ticks i').length]"), ["121", 0],
+             "the ticks of many commands")
+
+
+def check_explained(bench):
+    """Below the line that ran last, and each that is refused or bad, stands why; a near miss has a button."""
+    script = (b"task a 100\nalloc a 0 5\nput a 0 0 hello\nalloc a 0 5\ntsk b 5\nrelease a 8114\nclaim a 20\n"
+              b"task\tc\t5\npoll a\n")
+    with bench.kept_page() as page:
+        page.drop_bytes("a.desk", script)
+        same(page.text("notice"), "1 line has tabs, which part no words in a script. Mend them", "what is told of tabs")
+        page.click("run")
+        same(page.value(WHY),
+             ["", "", "Word 5 is hello, and has to be hexadecimal digits, two for each byte. "
+              "Make it: put a 0 0 68656c6c6f",
+              "This anchor has a block already. Take another anchor, or free that block first. Nothing was changed.",
+              "tsk is no command. Is task meant? Make it: task b 5",
+              "Word 3 is 8114, and has to be & and 1 to 8 hexadecimal digits, as &8114. Make it: release a &8114", "",
+              "There are characters in it that part no words, as a tab does. Make it: task c 5",
+              "No message waits for it."], "what is told of lines")
+        for left in (3, 2, 1, 0):
+            page.value("document.querySelector('#lines .fix').click()")
+            same(page.value(f"{FIXES}.length"), left, "how many near misses are left")
+        same([row["reply"] for row in page.rows()], ["ok 1", "ok &9008", "ok", "refused AnchorInUse", "ok 2",
+                                                     "refused NotABlock", "ok &8114", "ok 3", "ok 0"], "the replies")
+        page.click("undo")
+        same(lines(page)[7], "task\tc\t5", "the line when its mending is taken back")
+        page.drop_bytes("cut.desk", b"areas")
+        page.click("run")
+        page.value("document.querySelector('#lines .fix').click()")
+        same(page.saved("cut.desk"), b"areas\n", "the script whose last line was ended")
+
+
+def check_windows_line_ends(bench):
+    """A script of Windows is opened as it is; one button ends all lines by a line feed, and Undo takes that back."""
+    script = b"\xef\xbb\xbftask a 9\r\n# b\r\nareas\r\n"
+    with bench.kept_page() as page:
+        page.drop_bytes("a.desk", script)
+        same(page.text("notice"), "3 lines have line ends of Windows and a mark of its encoding, which part no words in "
+             "a script. Mend them", "what is told")
+        page.value("document.querySelector('#notice button').click()")
+        same([page.saved("a.desk"), page.text("notice"), page.focused()], [b"task a 9\n# b\nareas\n", "", "step"],
+             "the script that was mended, what is told, and what has the focus")
+        page.click("undo")
+        same(page.saved("a.desk"), script, "the script when that is taken back")
+
+
+def sampled(form):
+    """A line of a form, with samples for its words."""
+    return " ".join(SAMPLES.get(word, word) for word in form.split())
+
+
+def check_forms(bench):
+    """Each form and each refusal of the documents is explained, as the module takes it, and none besides."""
+    forms = forms_of_docs()
+    good = "".join(f"{sampled(it)}\n" for it in forms)
+    with bench.kept_page() as page:
+        page.drop_bytes("forms.desk", good.encode())
+        page.click("run")
+        bad = [row for row in page.rows() if row["reply"].startswith("bad")]
+        same(bad, [], "which forms the module doesn't take")
+        for number, form in enumerate(forms, 1):
+            page.value(f"document.querySelectorAll('#lines .number')[{number - 1}].click()")
+            holds(len(page.value(WHY)[number - 1]) > 15, f"nothing is told of {form}")
+        same(sorted(page.value("[...document.querySelectorAll('#forms dt')].map((it) => it.textContent)")),
+             sorted([*forms, *refusals_of_docs()]), "what is explained")
+
+
+def check_words_of_forms(bench):
+    """A word that isn't of its kind is told by its place, with what it has to be, for each word of each form."""
+    bad = []
+    for form in forms_of_docs():
+        words = form.split()
+        for at, kind in enumerate(words):
+            if kind in OTHERS:
+                line = [SAMPLES.get(it, it) for it in words]
+                line[at] = OTHERS[kind]
+                bad.append((" ".join(line), at + 1))
+    with bench.kept_page() as page:
+        page.drop_bytes("bad.desk", "".join(f"{line}\n" for line, _ in bad).encode())
+        page.click("run")
+        same([row["reply"] for row in page.rows()], [f"bad Word {at}" for _, at in bad], "the replies")
+        for (line, at), why in zip(bad, page.value(WHY)):
+            word = line.split()[at - 1]
+            holds(why.startswith(f"Word {at} is {word}, and has to be ") and "undefined" not in why, f"{line}: {why}")
+
+
+def check_refusals_seen(bench):
+    """Each refusal that an example or a worked row brings is explained."""
+    known = set(refusals_of_docs())
+    found = {word for path in (TOP / "examples").glob("**/*.out")
+             for word in re.findall(r"^(?:refused|ok .* failed) (\w+)$", path.read_text(), re.MULTILINE)}
+    holds(len(found) > 12 and found <= known, f"{len(found)} refusals, not in docs/DESK.md: {found - known}")
+
+
+def check_completion(bench):
+    """Tab completes the word from what is live, goes through several, and leaves the field where nothing fits."""
+    with bench.page() as page:
+        for line in ("task alpha 100", "task beta 100", "alloc alpha 0 5", "claim alpha 20", "claim alpha 30"):
+            page.enter(line)
+        typed = []
+        for text, keys in (("cl", ("Tab",)), ("", ("Tab",)), ("", ("Tab",)), ("", (("Tab", "Shift"),))):
+            page.tab.type(text) if text else None
+            for key in keys:
+                press(page, *((key,) if isinstance(key, str) else key))
+            typed.append(page.field("command"))
+        same(typed, ["claim ", "claim alpha", "claim beta", "claim alpha"], "what Tab brings")
+        same([page.value(WORDS), page.value("[...document.querySelectorAll('#hint .word')].map((it) => it.ariaPressed)")],
+             [["alpha", "beta"], ["true", "false"]], "the words that are offered")
+        press(page, "Escape")
+        page.tab.type("release alpha ")
+        same(page.value(WORDS), ["&8114", "&812C"], "the addresses that are offered")
+        page.value("document.querySelectorAll('#hint .word')[1].click()")
+        same([page.field("command"), page.focused()], ["release alpha &812C", "command"], "what a click takes")
+        press(page, "Enter")
+        same(page.rows()[-1]["reply"], "ok", "the reply")
+        page.tab.type("free alpha ")
+        press(page, "Tab")
+        same([page.field("command"), page.focused()], ["free alpha 0", "command"], "the only word that fits")
+        press(page, "Tab")
+        same(page.script("focused.js"), "Enter", "what has the focus where nothing more fits")
+        press(page, "Tab", "Shift")
+        press(page, "Escape")
+        press(page, "Tab")
+        same(page.script("focused.js"), "Enter", "what has the focus behind an empty prompt")
+        press(page, "Tab", "Shift")
+        page.tab.type("kill")
+        press(page, "Tab", "Shift")
+        same(page.focused(), "Line 6", "what Shift and Tab go back to")
+
+
+def check_undo_keys(bench):
+    """Ctrl and Z or Y take back and make again, but not in a field that is being typed in."""
+    with bench.page() as page:
+        page.enter("areas")
+        page.enter("task a 9")
+        found = []
+        for key in (("z", "Control"), ("z", "Control"), ("y", "Control"), ("Z", "Control", "Shift"), ("z", "Meta")):
+            press(page, *key)
+            found.append(len(lines(page)))
+        same(found, [1, 0, 1, 2, 1], "how many lines there are")
+        page.tab.type("typed")
+        press(page, "z", "Control")
+        same(len(lines(page)), 1, "how many lines there are while something is typed")
+        page.focus("#lines textarea")
+        press(page, "z", "Control")
+        same(len(lines(page)), 0, "how many lines there are when a line is only looked at")
+
+
+def check_entered_link(bench):
+    """The end of a link that is entered as a command brings its script; a page from disk copies such an end."""
+    with bench.page() as page:
+        page.enter("#name=b.desk&pages=9&at=1&script=areas%0Atask+a+9%0A")
+        same([lines(page), page.field("pages"), page.field("name"), page.text("progress"), page.text("notice")],
+             [["areas", "task a 9"], "9", "b.desk", "1 of 2 lines have run", "The script of the link is here."],
+             "what a link brings")
+        page.enter("#script")
+        same(lines(page)[1], "#script", "a remark that is no link")
+
+
+# Puts a page into a frame of another one, and waits a while until it has begun; gives whether it has.
+FRAMED = """new Promise((done) => {
+  const frame = document.createElement('iframe');
+  frame.srcdoc = %s;
+  document.body.append(frame);
+  let left = 300;
+  const look = () => {
+    const hasBegun = frame.contentDocument?.querySelector('#desk')?.hidden === false;
+    if (hasBegun || left-- === 0) done(hasBegun);
+    else setTimeout(look, 30);
+  };
+  look();
+})"""
+
+
+def check_in_frame(bench):
+    """In a frame without an address of its own the page runs, and copies the end of a link without a fault."""
+    inside = "document.querySelector('iframe').contentDocument.querySelector"
+    tab = bench.browser.open("about:blank")
+    holds(tab.value(FRAMED % json.dumps(make.page_of(bench.content))), "the page doesn't begin in a frame")
+    tab.value(f"{inside}('#command').value = 'areas'; {inside}('#prompt').requestSubmit(); {inside}('#copy').click()")
+    tab.wait(lambda: tab.value(f"{inside}('#notice').textContent"), "nothing is told of a link")
+    told = tab.value(f"{inside}('#notice').textContent")
+    holds(told.startswith(("Copied: the end of a link.", "This is the end of a link:")), f"what is told is {told}")
+    same(tab.faults, [], "what the browser tells of the page")
+    tab.close()
+
+
+def check_strict_site(bench):
+    """Where a site forbids the module, the page says that, and doesn't blame the browser."""
+    text = make.page_of(bench.content).replace("<meta charset", f"{STRICT}<meta charset", 1)
+    tab = bench.browser.open(bench.server.address("/strict.html", text.encode()))
+    why = "document.querySelector('#unsupported-why').textContent"
+    tab.wait(lambda: tab.value(why), "nothing is told of a strict site")
+    holds(tab.value(why).startswith("The site that shows this page forbids it to run its module"), tab.value(why))
+    holds("Your browser can" in tab.value(why) and "browser can’t" not in tab.value("document.body.innerText"),
+          "the browser is blamed")
+    tab.close()
+
+
+def check_panels(bench):
+    """What lies over the page is closed by Escape, by its button, and by a click elsewhere."""
+    with bench.kept_page() as page:
+        page.enter("areas")
+        found = []
+        for action in ("document.querySelector('#file-button').click()", "document.querySelector('#help-button').click()",
+                       "document.querySelector('#help-close').click()", "document.querySelector('#file-button').click()",
+                       "document.querySelector('#shown').click()", "document.querySelector('#file-button').click()",
+                       "document.querySelector('#copy-text').click()"):
+            page.value(action)
+            found.append(page.seen("file", "help"))
+        same(found, [["file"], ["help"], [], ["file"], [], ["file"], ["file"]], "what is open")
+        page.tab.wait(lambda: page.text("notice"), "nothing is told of a copied script")
+        same([page.text("notice"), page.value("navigator.clipboard.readText()")],
+             ["The script is copied as text.", "areas\n"], "what is copied")
+        press(page, "Escape")
+        same([page.seen("file"), page.focused()], [[], "file-button"], "what is open then, and what has the focus")
+
+
+def check_forced_colours(bench):
+    """Where the system has colours of its own, the line that ran last and what is pressed are told apart by edges."""
+    features = [{"name": "forced-colors", "value": "active"}]
+    style = "getComputedStyle(document.querySelector('%s'))"
+    with bench.kept_page() as page:
+        page.load("transfer")
+        page.click("run")
+        page.tab.call("Emulation.setEmulatedMedia", features=features)
+        current, other = (page.value(f"(({style % it}).borderLeftColor)") for it in (".row.current", ".row:not(.current)"))
+        holds(current != other, "the line that ran last isn't told apart")
+        same(page.value(f"{style % '#picture'}.forcedColorAdjust"), "none", "who has the colours of the picture")
+        page.tab.resize(390, 844)
+        page.tab.call("Emulation.setEmulatedMedia", features=features)
+        widths = [page.value(f"{style % f'#panes [aria-pressed={it}]'}.borderTopWidth") for it in ("true", "false")]
+        holds(widths[0] != widths[1], "the pane that is shown isn't told apart")
+        page.tab.call("Emulation.setEmulatedMedia", features=[])
+
+
+def check_print_of_many(bench):
+    """On paper a script of more lines than have rows is whole, and afterwards it has its rows again."""
+    with bench.kept_page() as page:
+        page.drop_bytes("long.desk", b"# a\n" * 1000)
+        count = "document.querySelectorAll('#lines > li').length"
+        found = [page.value(count)]
+        for event in ("beforeprint", "afterprint"):
+            page.value(f"dispatchEvent(new Event('{event}'))")
+            found.append(page.value(count))
+        same(found, [400, 1000, 400], "how many lines have rows before, on and after paper")
+
+
+# The milliseconds of each step of the script, up to where its picture has its place.
+STEP_TIMES = """(() => {
+  const step = document.querySelector('#step');
+  const times = [];
+  while (step.ariaDisabled === null) {
+    const start = performance.now();
+    step.click();
+    document.querySelector('#picture').getBoundingClientRect();
+    times.push(performance.now() - start);
+  }
+  return times.sort((one, other) => one - other);
+})()"""
+# So long most steps may take, in the quickest of some walks: the machine may have other work.
+MOST_OF_STEP = 60
+WALKS = 3
+
+
+def check_quick_steps(bench):
+    """A step of a lesson, and of a longer example, is drawn within 60 milliseconds, as most of its like."""
+    with bench.page() as page:
+        for name in ("lessons/small-buffer", "lessons/death", "lessons/sliding", "eight-transfers"):
+            page.load(name)
+            walks = []
+            for _ in range(WALKS):
+                page.value("document.querySelector('#slider').value = 0;"
+                           "document.querySelector('#slider').dispatchEvent(new Event('input'))")
+                walks.append(page.value(STEP_TIMES))
+            times = min(walks, key=sum)
+            middle = times[len(times) // 2]
+            print(f"  {name}: {len(times)} steps, half of them within {middle:.0f} ms, all within {times[-1]:.0f}")
+            holds(middle <= MOST_OF_STEP, f"half of the steps of {name} take more than {middle:.0f} ms")
