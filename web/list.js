@@ -24,7 +24,7 @@ function shownReply(reply) {
 
 // One line of the script, whose place changes as others come and go.
 class Row {
-  index = 0;
+  index = -1;
   #line = "";
   root = element("li", "row");
   #number = element("button", "number");
@@ -54,7 +54,7 @@ class Row {
     const reply = hasRun ? session.replies[index] : null;
     const isOther = this.index !== index || this.#line !== lines[index];
     this.index = index;
-    this.#name(index + 1);
+    if (isOther) this.#name(index + 1);
     this.#reply.textContent = reply === null ? "" : shownReply(reply);
     this.root.className = ["row", outcomeOf(reply)].join(" ");
     this.root.classList.toggle("ahead", !hasRun);

@@ -48,6 +48,8 @@ export class Picture {
   #figure = document.createElement("div");
   #sheetStyle = new CSSStyleSheet();
   #styleText;
+  // How far each frame was scrolled by hand.
+  #scrolled = [];
 
   // Of the element in which it stands, and what is added to the sheet's style.
   constructor(host, addedStyle) {
@@ -61,11 +63,10 @@ export class Picture {
   // Shows parts of a sheet, and what is said of how they are read, with the sheet's style.
   show(style, parts, legend) {
     if (style !== this.#styleText) this.#restyle(style, legend);
-    const scrolled = [...this.#figure.querySelectorAll(".wide")].map((frame) => frame.scrollLeft);
     this.#figure.replaceChildren(...copies(parts));
     unlink(this.#tree);
     const memory = this.#figure.querySelector(".memory");
-    if (memory) this.#frame(memory, scrolled);
+    if (memory) this.#frame(memory);
   }
 
   // Shows nothing any more.
@@ -74,11 +75,14 @@ export class Picture {
   }
 
   // Puts the pool and all below it into frames, each of which scrolls by itself where it is too wide.
-  #frame(memory, scrolled) {
+  #frame(memory) {
     const [pool, ...others] = memory.children;
     const frames = [frameOf("Pool of pages", [pool]), frameOf("Slots and module area", others)];
     memory.replaceChildren(...frames);
-    frames.forEach((frame, at) => frame.scrollLeft = scrolled[at] ?? 0);
+    frames.forEach((frame, at) => {
+      if (this.#scrolled[at]) frame.scrollLeft = this.#scrolled[at];
+      frame.addEventListener("scroll", () => this.#scrolled[at] = frame.scrollLeft);
+    });
   }
 
   // Takes the sheet's style over, and how figures are read. What the style says of a whole page holds for the picture.
