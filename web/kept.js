@@ -16,7 +16,7 @@ function lengthOf(lines) {
   return lines.reduce((sum, line) => sum + line.length + AROUND_LINE, 0);
 }
 
-// Those of some states that are nearest to the present, at the end, as far as there is room for them; and the room left.
+// Those of some states that are nearest to the present, at the end, as far as there is room; and the room that is left.
 function nearestStates(states, room) {
   let first = states.length;
   let left = room;

@@ -107,6 +107,8 @@ class Page {
 
   #show() {
     const { lines, position, pages, name, example } = this.#session.state;
+    // Memory comes first: how far it is scrolled is asked for while nothing has changed.
+    this.#memory.show();
     notice.tellFault(this.#session.fault);
     if (example !== this.#example) this.#takeExample(example);
     parts["no-lines"].hidden = lines.length > 0;
@@ -115,11 +117,12 @@ class Page {
     this.#story.show();
     this.#steps.show();
     this.#guess.show();
-    this.#memory.show();
     this.#prompt.usualHint = position < lines.length ? placeHint(position) : "";
     parts.name.value = name;
     parts.pages.value = pages;
     document.title = lines.length ? `${name} – Vervainfile` : "Vervainfile";
+    // What stands above the script on paper.
+    document.body.dataset.name = name;
     parts.progress.textContent = this.#progress();
     this.#enableButtons();
     this.#say();
@@ -309,6 +312,7 @@ class Page {
     parts.name.addEventListener("change", () => this.#session.change({ name: deskName(parts.name.value) }));
     parts.pages.addEventListener("change", () => this.#setPages());
     addEventListener("keydown", (event) => this.#onKey(event));
+    addEventListener("resize", () => this.#settle());
     this.#listenToDrops();
   }
 

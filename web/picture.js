@@ -48,8 +48,6 @@ export class Picture {
   #figure = document.createElement("div");
   #sheetStyle = new CSSStyleSheet();
   #styleText;
-  // How far each frame was scrolled by hand.
-  #scrolled = [];
 
   // Of the element in which it stands, and what is added to the sheet's style.
   constructor(host, addedStyle) {
@@ -63,10 +61,11 @@ export class Picture {
   // Shows parts of a sheet, and what is said of how they are read, with the sheet's style.
   show(style, parts, legend) {
     if (style !== this.#styleText) this.#restyle(style, legend);
+    const scrolled = [...this.#figure.querySelectorAll(".wide")].map((frame) => frame.scrollLeft);
     this.#figure.replaceChildren(...copies(parts));
     unlink(this.#tree);
     const memory = this.#figure.querySelector(".memory");
-    if (memory) this.#frame(memory);
+    if (memory) this.#frame(memory, scrolled);
   }
 
   // Shows nothing any more.
@@ -75,13 +74,12 @@ export class Picture {
   }
 
   // Puts the pool and all below it into frames, each of which scrolls by itself where it is too wide.
-  #frame(memory) {
+  #frame(memory, scrolled) {
     const [pool, ...others] = memory.children;
     const frames = [frameOf("Pool of pages", [pool]), frameOf("Slots and module area", others)];
     memory.replaceChildren(...frames);
     frames.forEach((frame, at) => {
-      if (this.#scrolled[at]) frame.scrollLeft = this.#scrolled[at];
-      frame.addEventListener("scroll", () => this.#scrolled[at] = frame.scrollLeft);
+      if (scrolled[at]) frame.scrollLeft = scrolled[at];
     });
   }
 

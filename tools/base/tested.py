@@ -69,7 +69,8 @@ def parts_of(top, build, is_dist):
         Part("documents", [f"{tests}docs", build.program]),
         Part("command", [f"{tests}command"]),
         *([Part("sums", [f"{tests}sums"])] if is_dist else []),
-        Part("pace", [f"{top}/bin/web", "test", build.page, "--program", build.program, "long_scripts"], True, True),
+        Part("pace", [f"{top}/bin/web", "test", build.page, "--program", build.program, "long_scripts",
+                      "quick_steps"], True, True),
     ]
 
 

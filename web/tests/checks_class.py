@@ -13,19 +13,18 @@ import make
 WINDOWS = ((1280, 720), (1366, 768), (1440, 900), (1920, 1080), (1024, 768), (820, 1180), (390, 844), (360, 640))
 # What has to be in sight at each step, and how much of it at least.
 IN_SIGHT = {"#step": 20, "#back": 20, "#slider": 10, "#shown": 14, "#frame": 110}
-# How much of each element is in the window, and of a picture the window's part that it begins in; and what is scrolled.
+# How much of each element is in the window; and how far the page is scrolled, and could be.
 SEEN_HEIGHTS = """((names) => [names.map((name) => {
   const { top, bottom } = document.querySelector(name).getBoundingClientRect();
   return Math.min(bottom, innerHeight) - Math.max(top, 0);
 }), scrollY, document.documentElement.scrollHeight - innerHeight])"""
-# A step at which the figure isn't at the beginning of its frame.
-SCROLLED = "document.querySelector('#frame').scrollTop"
 # Words that stand in place of those of a form.
 SAMPLES = {"NAME": "a", "TO": "b", "FILE": "f", "A": "0", "BUF": "9", "N": "5", "OFF": "0", "AT": "0", "DELTA": "-4",
            "BY": "4", "K": "256", "MAX": "4", "ID": "1", "ADDR": "&8114", "HEX": "6869", "LEAF": "x!"}
 # Words that a form of each kind doesn't take.
 OTHERS = {"NAME": "1a", "TO": "a-b", "FILE": "x" * 13, "A": "64", "BUF": "0", "N": "-1", "OFF": "2147483648", "AT": "x",
-          "DELTA": "+4", "BY": "&4", "K": "65536", "MAX": "1025", "ID": "0", "ADDR": "8114", "HEX": "6", "LEAF": "x" * 11}
+          "DELTA": "+4", "BY": "&4", "K": "65536", "MAX": "1025", "ID": "0", "ADDR": "8114", "HEX": "6",
+          "LEAF": "x" * 11}
 WHY = "[...document.querySelectorAll('#lines > li')].map((it) => it.querySelector('.why').textContent)"
 FIXES = "[...document.querySelectorAll('#lines .fix')].map((it) => it.textContent)"
 WORDS = "[...document.querySelectorAll('#hint .word')].map((it) => it.textContent)"
@@ -77,14 +76,14 @@ def check_story(bench):
         for _ in range(7):
             page.click("step")
             found.append(page.value(TALE))
-        same([title for title, _ in found], [""] * 5 + ["Three blocks, one after the other", "A hole between two blocks"],
-             "the titles")
+        same([title for title, _ in found],
+             [""] * 5 + ["Three blocks, one after the other", "A hole between two blocks"], "the titles")
         same([tale[:19] for _, tale in found], [remark[:19]] * 5 + ["", "A block in the midd"],
              "the remarks, of which a title behind commands ends one")
         page.drop_bytes("plain.desk", b"areas\n")
         same(page.seen("story"), [], "what is told of a script without remarks")
         page.drop_bytes("told.desk", b"# one\n# two\nareas\n")
-        same([page.seen("story"), page.value(TALE)], [["story"], ["", "one two"]], "what is told of a remark of two lines")
+        same([page.seen("story"), page.value(TALE)], [["story"], ["", "one two"]], "what is told of two lines")
 
 
 def check_questions(bench):
@@ -96,8 +95,8 @@ def check_questions(bench):
         for _ in range(8):
             page.click("step")
         same(page.value("document.querySelector('.question summary').textContent"), "Question 3", "what is asked")
-        same(page.value(f"[...{form}.querySelectorAll('label')].map((it) => it.textContent)"), ["308 bytes", "309 bytes"],
-             "the fields")
+        same(page.value(f"[...{form}.querySelectorAll('label')].map((it) => it.textContent)"),
+             ["308 bytes", "309 bytes"], "the fields")
         page.value(f"{form}.querySelector('input').focus()")
         page.tab.type("824c")
         press(page, "Enter")
@@ -112,7 +111,7 @@ def check_questions(bench):
         page.click("back")
         page.value(f"{form}.querySelector('.plain').click()")
         holds(page.value(TOLD).startswith("2884. The hole has 312"), "an answer isn't shown")
-        same(page.value("document.querySelector('.score').textContent"), "1 of 4 answered", "how many are answered then")
+        same(page.value("document.querySelector('.score').textContent"), "1 of 4 answered", "how many then")
         page.edit(2, "task a 90")
         holds("questions are about it as it was" in page.text("story"), "nothing is told of a lesson that was changed")
         page.load("hello")
@@ -190,9 +189,9 @@ def check_slider(bench):
         same(page.value(f"[{slider}.max, {slider}.value, {slider}.ariaValueText]"),
              ["15", "0", "before the first command"], "the slider at first")
         page.focus("#slider")
-        for key, wanted in (("ArrowRight", "2 of 23"), ("End", "23 of 23"), ("ArrowLeft", "22 of 23"), ("Home", "0 of 23")):
+        for key, wanted in (("ArrowRight", 2), ("End", 23), ("ArrowLeft", 22), ("Home", 0)):
             press(page, key)
-            same(page.text("progress"), f"{wanted} lines have run", f"where the script stands after {key}")
+            same(page.text("progress"), f"{wanted} of 23 lines have run", f"where the script stands after {key}")
         page.tab.key("F8")
         same([page.focused(), page.value(f"{slider}.ariaValueText")], ["slider", "line 2, task a 100: ok 1"],
              "what is told of the slider after a step")
@@ -238,8 +237,8 @@ def check_windows_line_ends(bench):
     script = b"\xef\xbb\xbftask a 9\r\n# b\r\nareas\r\n"
     with bench.kept_page() as page:
         page.drop_bytes("a.desk", script)
-        same(page.text("notice"), "3 lines have line ends of Windows and a mark of its encoding, which part no words in "
-             "a script. Mend them", "what is told")
+        same(page.text("notice"), "3 lines have line ends of Windows and a mark of its encoding, which part no words "
+             "in a script. Mend them", "what is told")
         page.value("document.querySelector('#notice button').click()")
         same([page.saved("a.desk"), page.text("notice"), page.focused()], [b"task a 9\n# b\nareas\n", "", "step"],
              "the script that was mended, what is told, and what has the focus")
@@ -307,8 +306,8 @@ def check_completion(bench):
                 press(page, *((key,) if isinstance(key, str) else key))
             typed.append(page.field("command"))
         same(typed, ["claim ", "claim alpha", "claim beta", "claim alpha"], "what Tab brings")
-        same([page.value(WORDS), page.value("[...document.querySelectorAll('#hint .word')].map((it) => it.ariaPressed)")],
-             [["alpha", "beta"], ["true", "false"]], "the words that are offered")
+        pressed = page.value("[...document.querySelectorAll('#hint .word')].map((it) => it.ariaPressed)")
+        same([page.value(WORDS), pressed], [["alpha", "beta"], ["true", "false"]], "the words that are offered")
         press(page, "Escape")
         page.tab.type("release alpha ")
         same(page.value(WORDS), ["&8114", "&812C"], "the addresses that are offered")
@@ -405,11 +404,8 @@ def check_panels(bench):
     with bench.kept_page() as page:
         page.enter("areas")
         found = []
-        for action in ("document.querySelector('#file-button').click()", "document.querySelector('#help-button').click()",
-                       "document.querySelector('#help-close').click()", "document.querySelector('#file-button').click()",
-                       "document.querySelector('#shown').click()", "document.querySelector('#file-button').click()",
-                       "document.querySelector('#copy-text').click()"):
-            page.value(action)
+        for name in ("file-button", "help-button", "help-close", "file-button", "shown", "file-button", "copy-text"):
+            page.click(name)
             found.append(page.seen("file", "help"))
         same(found, [["file"], ["help"], [], ["file"], [], ["file"], ["file"]], "what is open")
         page.tab.wait(lambda: page.text("notice"), "nothing is told of a copied script")
@@ -427,7 +423,8 @@ def check_forced_colours(bench):
         page.load("transfer")
         page.click("run")
         page.tab.call("Emulation.setEmulatedMedia", features=features)
-        current, other = (page.value(f"(({style % it}).borderLeftColor)") for it in (".row.current", ".row:not(.current)"))
+        rows = (".row.current", ".row:not(.current)")
+        current, other = (page.value(f"{style % it}.borderLeftColor") for it in rows)
         holds(current != other, "the line that ran last isn't told apart")
         same(page.value(f"{style % '#picture'}.forcedColorAdjust"), "none", "who has the colours of the picture")
         page.tab.resize(390, 844)

@@ -10,7 +10,7 @@ from checks_looks import COLOURED, TINTS
 EDGES = "(({ left, top, right, bottom }) => ({ left, top, right, bottom }))(%s.getBoundingClientRect())"
 FOCUSED = "document.activeElement"
 # Where what has the focus begins in the window, also within a picture.
-TOP_OF_FOCUSED = """((it) => (it.shadowRoot?.activeElement ?? it).getBoundingClientRect().top)(document.activeElement)"""
+TOP_OF_FOCUSED = f"(({FOCUSED}.shadowRoot?.activeElement ?? {FOCUSED}).getBoundingClientRect().top)"
 # How much of what stands in an element is cut off below.
 CUT_OFF = "((it) => it.scrollHeight - it.clientHeight)(document.querySelector('%s'))"
 # The least contrast of a control's edge, and of the line around what has the focus, to what is behind it.
@@ -144,7 +144,7 @@ def check_one_below_another(bench):
         page.drop_bytes("long.desk", b"areas\n" * 100)
         scroller = edges(page, "#scroller")
         holds(scroller["bottom"] - scroller["top"] < 0.7 * 700, "a long script is shown whole")
-        holds(edges(page, "section.script")["bottom"] <= edges(page, "footer")["top"], "the steps hide the script's end")
+        holds(edges(page, "section.script")["bottom"] <= edges(page, "footer")["top"], "the steps hide the script")
 
 
 def check_focus_in_sight(bench):
@@ -183,7 +183,7 @@ def check_on_paper(bench):
                  [False] * 5, f"whether something is cut off on paper, at {width}")
             same(page.seen("script", "memory", "picture", "step", "prompt", "tools", "views", "panes", "hint"),
                  ["script", "memory", "picture"], f"what is on paper, at {width}")
-            holds(page.value("getComputedStyle(document.body).height") != f"{height}px", "the page is as high as a window")
+            holds(page.value("document.body.offsetHeight") != height, "the page is as high as a window")
             page.tab.call("Emulation.setEmulatedMedia", media="")
 
 

@@ -189,7 +189,8 @@ def check_names(bench):
         holds(line.description.startswith("ok"), "a line is told without its reply")
         other = page.value("""[...document.querySelectorAll('#lines textarea')].filter((it) =>
           it.getAttribute('aria-describedby').split(' ').map((id) => document.getElementById(id)).some((told, at) =>
-            told !== [it.nextElementSibling, it.nextElementSibling.nextElementSibling][at])).map((it) => it.ariaLabel)""")
+            told !== [it.nextElementSibling, it.nextElementSibling.nextElementSibling][at]))
+            .map((it) => it.ariaLabel)""")
         same(other, [], "which lines are told with other replies than their own, or with other reasons")
         refused = next(it for it in used if it.role == "textbox" and "refused NoName" in it.description)
         holds("No live task is called z." in refused.description, "a refusal is told without its reason")

@@ -45,7 +45,8 @@
 
   function isSeen(element) {
     const hasText = [...element.childNodes].some((node) => node.nodeType === Node.TEXT_NODE && node.data.trim());
-    return (hasText || (element.value && element.type !== "range")) && element.checkVisibility() && !element.ariaDisabled
+    const hasValue = element.value && element.type !== "range";
+    return (hasText || hasValue) && element.checkVisibility() && !element.ariaDisabled
       && !UNSEEN.includes(element.localName) && !element.closest(".unseen, pattern, defs");
   }
 

@@ -155,7 +155,8 @@ const SESSION_TESTS = {
     same(session.asked("areas"), "ok areas");
     session.moveTo(3);
     session.asked("heap a");
-    same(desk.asked.slice(-2).map(({ script, pages }) => [script, pages]), [["a\nb\nareas\n", 8], ["a\nb\nheap a\n", 8]]);
+    const asked = desk.asked.slice(-2).map(({ script, pages }) => [script, pages]);
+    same(asked, [["a\nb\nareas\n", 8], ["a\nb\nheap a\n", 8]]);
     same(session.replyTo({ lines: ["x", "y"], pages: 9, files: [] }), "ok y");
     same([{ ...before, position: 3 }, desk.asked.at(-1).pages], [session.state, 9]);
   },
