@@ -64,8 +64,8 @@ pub use Rattle.rh_drawn.specs.Deeds.{reply_to}
 pub use Rattle.rh_drawn.specs.DrawnLetters.{has_letters_in}
 pub use Rattle.rh_drawn.specs.Inner.LettersBehind.{letterboxes_in}
 pub use Rattle.rh_drawn.specs.Inner.Marked.{made_pages, marked, marked_all, slot_pages_from}
-pub use Rattle.rh_drawn.specs.Parts.{area_part, block_part, indented, page_part, panel_part, slide_part, slot_panels, slot_part}
-pub use Rattle.rh_drawn.specs.Inner.PartsBehind.{takes_part}
+pub use Rattle.rh_drawn.specs.Parts.{area_part, indented, panel_part, slot_panels, slot_part}
+pub use Rattle.rh_drawn.specs.Inner.ReturnLines.{return_lines}
 pub use Rattle.rh_drawn.specs.DrawnPlaces.{Drew, TookLine, place_in}
 pub use Rattle.rh_drawn.specs.DrawnReplies.{Excerpts}
 pub use Rattle.rh_drawn.specs.DrawnSides.{ins_of, outs_of}

@@ -2,8 +2,12 @@ pub mod ShareLemmas
 pub mod ReadLemmas
 pub mod MapLemmas
 pub mod Walks
+pub mod TextWalks
+pub mod TextPuts
+pub mod ElementLemmas
 pub mod PageLemmas
 pub mod PostLemmas
+pub mod ReturnLemmas
 pub mod DrawingLemmas
 pub mod TransferLemmas
 pub mod FigureLemmas

@@ -1,11 +1,11 @@
 -- Owners of pages, and the pages that they have.
 use Rattle.rh_drawn.proofs.Common.{◌≡◌, ℕ, zero, suc, ◌+◌, ◌<◌, ◌≤◌, ◌++◌, true, arith, refl, ap, sym, subst, ◌∙◌, List, [], ◌∷◌, length, drop}
-use Rattle.rh_drawn.proofs.Common.{Some, IfSome, slice_get, slice_index, if◌then◌else◌, ◌==◌, codes, nat_lt, enumerate_from, option_map, nat_tests}
+use Rattle.rh_drawn.proofs.Common.{Some, IfSome, slice_get, slice_index, if◌then◌else◌, ◌==◌, nat_lt, enumerate_from, option_map, nat_tests}
 use Rattle.rh_drawn.proofs.Common.{drop_more, Desk, Made, Task, module_pages, task_pages, IsDesk, Rise, taken_line, Scene, AreaOf}
-use Rattle.rh_drawn.proofs.Common.{IsShared, Owner, SlotOf, count_of, share_in, indented, takes_part, at-some}
+use Rattle.rh_drawn.proofs.Common.{IsShared, Owner, SlotOf, Text, append-nil, at-some, count_of, flat_map, share_in}
 use Rattle.rh_defs.specs.Forms.{first_made, most_pages}
 use Rattle.rh_defs.specs.Desk.{module_area}
-use Rattle.rh_figure.specs.Changes.{taken_pages}
+use Rattle.rh_figure.specs.Changes.{taken_pages, takes_text}
 use Rattle.rh_figure.specs.Phrases.{owner_name}
 use Rattle.rh_sight.specs.declared.sight.PagesOf.{PagesOf}
 use Rattle.rh_sight.specs.declared.sight.PagesOf.TheVariants as pages
@@ -64,8 +64,9 @@ numbered-next i xs low =
 
 -- ---- what an owner has taken
 
-pub takes-some : (x : Scene) (o : Owner) (n : ℕ) → count_of o x.before.holdings < n
-    → takes_part x (o, n) ≡ (codes "  " ++ taken_line (owner_name x.desk o) (taken_pages x (o, n))) ∷ []
-takes-some x o n low =
+pub takes-one : (element : Text → List ℕ) (x : Scene) (o : Owner) (n : ℕ) → count_of o x.before.holdings < n
+    → flat_map element (takes_text x (o, n)) ≡ element (taken_line (owner_name x.desk o) (taken_pages x (o, n)))
+takes-one element x o n low =
     let on : nat_lt (count_of o x.before.holdings) n ≡ true = grind (arith, nat_tests) in
-    ap (λ b. indented (if b then taken_line (owner_name x.desk o) (taken_pages x (o, n)) ∷ [] else [])) on
+    let line = taken_line (owner_name x.desk o) (taken_pages x (o, n)) in
+    ap (λ b. flat_map element (if b then line ∷ [] else [])) on ∙ append-nil (element line)

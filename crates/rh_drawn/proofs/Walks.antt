@@ -1,8 +1,9 @@
 -- Lists that are shown or looked through, place by place.
 use Rattle.rh_drawn.proofs.Common.{◌≡◌, ℕ, ◌+◌, ◌<◌, ap, sym, ◌∙◌, List, [], ◌∷◌, ◌++◌, length, drop, get_or, Some, None, append_assoc, append-nil}
-use Rattle.rh_drawn.proofs.Common.{codes, slice_get, flat_map, drop_more, map-append, Text, shown_lines, shown-append, rest-none, rest-some, indented}
+use Rattle.rh_drawn.proofs.Common.{codes, slice_get, flat_map, drop_more, Text, shown_lines, shown-append, rest-none, rest-some, indented}
 use Rattle.rh_figure.specs.Map.{shown_line}
 use Rattle.rh_map.proofs.SeamLemmas.{shown-one}
+use Rattle.std.proofs.lemmas.List.Folds.{flat_map-map}
 
 -- the place of a slice that a loop is at
 pub rest-at : {A : Type 0} (xs : List A) (i : ℕ) (x : A) → i < length xs → x ≡ get_or xs i x → drop i xs ≡ x ∷ drop (i + 1) xs
@@ -23,11 +24,8 @@ module _ {A B : Type 0} (first : List A → B) (xs : List A) (i : ℕ) (so_far :
 
 -- ---- lines behind two spaces
 
-pub indented-append : (xs ys : List Text) → indented (xs ++ ys) ≡ indented xs ++ indented ys
-indented-append xs ys = map-append (λ line. codes "  " ++ line) xs ys
-
-pub indented-each : {A : Type 0} (f : A → List Text) (x : A) (rest : List A) → indented (flat_map f (x ∷ rest)) ≡ indented (f x) ++ indented (flat_map f rest)
-indented-each f x rest = indented-append (f x) (flat_map f rest)
+pub changed-lines : (changes : List Text) → flat_map (λ line. shown_line (codes "  " ++ line) ++ codes "\n") changes ≡ shown_lines (indented changes)
+changed-lines changes = sym (flat_map-map (λ line. shown_line line ++ codes "\n") (λ line. codes "  " ++ line) changes)
 
 -- ---- what a pen is offered
 

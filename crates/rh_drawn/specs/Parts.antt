@@ -1,10 +1,9 @@
 -- The lines of a figure, part by part.
-use Rattle.std.specs.Prelude.{List, [], ◌∷◌, ◌++◌, codes, map, Option}
+use Rattle.std.specs.Prelude.{List, [], ◌∷◌, ◌++◌, codes, map}
 use Rattle.std.specs.List.{flat_map}
 use Rattle.rh_defs.specs.Desk.{Task}
 use Rattle.rh_figure.specs.Phrases.{Text}
 use Rattle.rh_figure.specs.Scene.{Scene}
-use Rattle.rh_figure.specs.Changes.{page_changes, block_changes, slides, slide_change, post_changes}
 use Rattle.rh_figure.specs.Figure.{Panel, figure, area_panels, slot_panel, panel_of_module, letterboxes, transfers}
 use Rattle.rh_figure.specs.Map.{panel_lines, marked_heading, letterbox_line, transfer_line, under, pool_heading}
 use Rattle.rh_figure.specs.Rows.{pool_rows}
@@ -48,17 +47,3 @@ letter_part x = under (codes "Messages") (map letterbox_line (letterboxes x))
 -- transfers, with the record of either side
 abbrev pub transfer_part : Scene → List Text
 transfer_part x = under (codes "Transfers") (map transfer_line (transfers x))
-
--- ---- what has changed
-
-abbrev pub page_part : Scene → List Text
-page_part x = indented (page_changes x)
-
-abbrev pub block_part : Scene → Option Task → List Text
-block_part x t = indented (block_changes x t)
-
-abbrev pub slide_part : Scene → List Text
-slide_part x = indented (slide_change (slides x))
-
-abbrev pub post_part : Scene → List Text
-post_part x = indented (post_changes x)

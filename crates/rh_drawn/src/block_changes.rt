@@ -5,63 +5,63 @@ ghost use Rattle.std.specs.Prelude.{length, map, not};
 ghost use Rattle.rh_defs.specs.Desk.{task_at};
 ghost use Rattle.rh_defs.specs.declared.question.BlockItem.{BlockItem};
 ghost use Rattle.rh_defs.specs.declared.sizes.TheConstants.{ANCHORS};
-ghost use Rattle.rh_drawn.specs.Parts.{block_part, indented, slide_part};
 ghost use Rattle.rh_drawn.specs.DrawnSlides.{summary_of};
 ghost use Rattle.rh_drawn.specs.Inner.SlidesSeen.{from_seen, with_one};
-ghost use Rattle.rh_figure.specs.Changes.{Slide, block_change, gone_line, has_anchor as has_anchor_in};
-ghost use Rattle.rh_figure.specs.Changes.{item_with_anchor, slide_change, slide_of};
-ghost use Rattle.rh_map.specs.Written.{shown_lines};
+ghost use Rattle.rh_figure.specs.Changes.{Slide, block_change, block_changes, gone_line};
+ghost use Rattle.rh_figure.specs.Changes.{has_anchor as has_anchor_in, item_with_anchor, slide_change, slide_of, slides};
 ghost use Rattle.rh_sight.specs.Steps.{scene_at};
 
+use crate::artist::Artist;
 use arrayvec::ArrayVec;
 use rh_defs::BlockItem;
 use rh_defs::sizes::ANCHORS;
 use rh_lines::Pen;
-use rh_map::{print_block_gone, print_block_new, print_block_resized, print_slide};
+use rh_map::{block_gone, block_new, block_resized, blocks_slide};
 use rh_sight::{Kept, Sight, Step, task_with};
 
-/// Writes which blocks of the named task are gone, are new or have another size, and how those that lie elsewhere
+/// Shows which blocks of the named task are gone, are new or have another size, and how those that lie elsewhere
 /// slid.
-pub fn print_block_part<S: Sight, P: Pen>(
+pub fn show_block_changes<S: Sight, A: Artist, P: Pen>(
     sight: &S,
     step: &Step<'_>,
     blocks: &mut ArrayVec<BlockItem, ANCHORS>,
+    artist: &A,
     pen: &mut P,
 )
     ensures { let x = scene_at (S.desk sight.now) step.now in
-        P.offered pen.new ≡ P.offered pen.old ++ shown_lines (block_part x (task_at x.before.handle x.desk)
-        ++ slide_part x) }
+        P.offered pen.new ≡ P.offered pen.old
+        ++ flat_map A.change_text (block_changes x (task_at x.before.handle x.desk) ++ slide_change (slides x)) }
 {
     let Some(i) = task_with(sight, step.kept.handle()) else {
         return;
     };
     sight.blocks(i, blocks);
-    print_gone(step.kept.blocks(), blocks, pen);
-    print_now(step.kept, blocks, pen);
-    print_slides(step.kept, blocks, pen);
+    show_gone(step.kept.blocks(), blocks, artist, pen);
+    show_now(step.kept, blocks, artist, pen);
+    show_slides(step.kept, blocks, artist, pen);
 }
 
-/// Writes which of the blocks before are gone.
-fn print_gone<P: Pen>(before: &[BlockItem], now: &[BlockItem], pen: &mut P)
+/// Shows which of the blocks before are gone.
+fn show_gone<A: Artist, P: Pen>(before: &[BlockItem], now: &[BlockItem], artist: &A, pen: &mut P)
     ensures { P.offered pen.new ≡ P.offered pen.old
-        ++ shown_lines (indented (map (λ (b : BlockItem). gone_line b.anchor)
-        (filter (λ (b : BlockItem). not (has_anchor_in b.anchor now.now)) before.now))) }
+        ++ flat_map A.change_text (map (λ (b : BlockItem). gone_line b.anchor)
+        (filter (λ (b : BlockItem). not (has_anchor_in b.anchor now.now)) before.now)) }
 {
     for block in before {
-        print_if_gone(now, block, pen);
+        show_if_gone(now, block, artist, pen);
     }
 }
 
-/// Writes that a block is gone, if none of those now has its anchor.
-fn print_if_gone<P: Pen>(now: &[BlockItem], block: &BlockItem, pen: &mut P)
+/// Shows that a block is gone, if none of those now has its anchor.
+fn show_if_gone<A: Artist, P: Pen>(now: &[BlockItem], block: &BlockItem, artist: &A, pen: &mut P)
     ensures { P.offered pen.new ≡ P.offered pen.old
-        ++ shown_lines (indented (if has_anchor_in block.now.anchor now.now then [] else gone_line block.now.anchor
-        ∷ [])) }
+        ++ flat_map A.change_text
+        (if has_anchor_in block.now.anchor now.now then [] else gone_line block.now.anchor ∷ []) }
 {
     if has_anchor(now, block) {
         return;
     }
-    print_block_gone(block.anchor, pen);
+    artist.change(&block_gone(block.anchor), pen);
 }
 
 /// Whether one of the blocks has the anchor of this one.
@@ -71,26 +71,26 @@ pub fn has_anchor(blocks: &[BlockItem], block: &BlockItem) -> bool
     blocks.iter().any(|other| other.anchor == block.anchor)
 }
 
-/// Writes which of the blocks are new, and which had another size.
-fn print_now<P: Pen>(kept: &Kept, blocks: &[BlockItem], pen: &mut P)
+/// Shows which of the blocks are new, and which had another size.
+fn show_now<A: Artist, P: Pen>(kept: &Kept, blocks: &[BlockItem], artist: &A, pen: &mut P)
     ensures { P.offered pen.new ≡ P.offered pen.old
-        ++ shown_lines (indented (flat_map (λ (b : BlockItem). block_change b
-        (item_with_anchor b.anchor kept.now.blocks)) blocks.now)) }
+        ++ flat_map A.change_text (flat_map (λ (b : BlockItem). block_change b
+        (item_with_anchor b.anchor kept.now.blocks)) blocks.now) }
 {
     for block in blocks {
-        print_change(kept, block, pen);
+        show_block_change(kept, block, artist, pen);
     }
 }
 
-/// Writes that a block is new, or had another size, where it is so.
-fn print_change<P: Pen>(kept: &Kept, block: &BlockItem, pen: &mut P)
+/// Shows that a block is new, or had another size, where it is so.
+fn show_block_change<A: Artist, P: Pen>(kept: &Kept, block: &BlockItem, artist: &A, pen: &mut P)
     ensures { P.offered pen.new ≡ P.offered pen.old
-        ++ shown_lines (indented (block_change block.now (item_with_anchor block.now.anchor kept.now.blocks))) }
+        ++ flat_map A.change_text (block_change block.now (item_with_anchor block.now.anchor kept.now.blocks)) }
 {
     match kept.block(block.anchor) {
-        None => print_block_new(block.anchor, pen),
+        None => artist.change(&block_new(block.anchor), pen),
         Some(old) if old.size != block.size => {
-            print_block_resized(block.anchor, old.size, block.size, pen);
+            artist.change(&block_resized(block.anchor, old.size, block.size), pen);
         }
         Some(_) => {}
     }
@@ -104,15 +104,15 @@ pub struct Slid {
     pub to: u32,
 }
 
-/// Writes how the blocks slid, if some did.
-fn print_slides<P: Pen>(kept: &Kept, blocks: &[BlockItem], pen: &mut P)
+/// Shows how the blocks slid, if some did.
+fn show_slides<A: Artist, P: Pen>(kept: &Kept, blocks: &[BlockItem], artist: &A, pen: &mut P)
     requires { length blocks.now ≤ ANCHORS }
     ensures { P.offered pen.new ≡ P.offered pen.old
-        ++ shown_lines (indented (slide_change (flat_map (λ (b : BlockItem). slide_of b
-        (item_with_anchor b.anchor kept.now.blocks)) blocks.now))) }
+        ++ flat_map A.change_text (slide_change (flat_map (λ (b : BlockItem). slide_of b
+        (item_with_anchor b.anchor kept.now.blocks)) blocks.now)) }
 {
     if let Some(slid) = find_slid(kept, blocks) {
-        print_slide(slid.count, slid.from, slid.to, pen);
+        artist.change(&blocks_slide(slid.count, slid.from, slid.to), pen);
     }
 }
 

@@ -1,7 +1,6 @@
 //! A whole figure.
 
-ghost use Rattle.std.specs.Prelude.{◌≡◌, ◌≤◌, ◌++◌, ◌∷◌, [], length};
-ghost use Rattle.rh_drawn.specs.Inner.PartsBehind.{change_part};
+ghost use Rattle.std.specs.Prelude.{◌≡◌, ◌≤◌, ◌++◌, length};
 ghost use Rattle.rh_figure.specs.Figure.{figure};
 ghost use Rattle.rh_figure.specs.Map.{figure_lines};
 ghost use Rattle.rh_map.specs.Written.{shown_lines};
@@ -9,13 +8,12 @@ ghost use Rattle.rh_sight.specs.Steps.{IsStepOf, scene_at};
 ghost use Rattle.rh_defs.specs.Post.{most_messages};
 
 use crate::areas::print_area_part;
-use crate::block_changes::print_block_part;
+use crate::changes::show_changes;
 use crate::letters::print_letter_part;
 use crate::lists::Lists;
+use crate::map_artist::MapArtist;
 use crate::modules::print_module_part;
-use crate::page_changes::print_page_part;
 use crate::pool::print_pool_part;
-use crate::post_changes::print_post_part;
 use crate::slots::print_slot_part;
 use crate::transfers::print_transfer_part;
 use rh_lines::Pen;
@@ -29,7 +27,7 @@ pub fn print_figure<S: Sight, P: Pen>(sight: &S, step: &Step<'_>, lists: &mut Li
     ensures { P.offered pen.new ≡ P.offered pen.old
         ++ shown_lines (figure_lines (figure (scene_at (S.desk sight.now) step.now))) }
 {
-    print_changes(sight, step, lists, pen);
+    show_changes(sight, step, lists, &MapArtist, pen);
     put_line(b"", pen);
     print_pool_part(sight, step, lists, pen);
     print_area_part(sight, step, pen);
@@ -38,15 +36,4 @@ pub fn print_figure<S: Sight, P: Pen>(sight: &S, step: &Step<'_>, lists: &mut Li
     print_letter_part(sight, step, pen);
     print_transfer_part(sight, pen);
     put_line(b"", pen);
-}
-
-/// Writes what a step has changed: of the pool, of the named task's flex blocks, and of the messages.
-fn print_changes<S: Sight, P: Pen>(sight: &S, step: &Step<'_>, lists: &mut Lists, pen: &mut P)
-    requires { IsStepOf (S.desk sight.now) step.now }
-    ensures { P.offered pen.new ≡ P.offered pen.old
-        ++ shown_lines (change_part (scene_at (S.desk sight.now) step.now)) }
-{
-    print_page_part(sight, step, pen);
-    print_block_part(sight, step, &mut lists.blocks, pen);
-    print_post_part(sight, step, pen);
 }

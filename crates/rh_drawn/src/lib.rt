@@ -3,8 +3,10 @@
 #![tactic(auto)]
 
 mod areas;
+mod artist;
 mod block_changes;
 mod cards;
+mod changes;
 mod deeds;
 mod drawn;
 mod excerpt;
@@ -13,6 +15,7 @@ mod flex_cards;
 mod heap_cards;
 mod letters;
 mod lists;
+mod map_artist;
 mod mapper;
 mod modules;
 mod page_changes;
@@ -26,8 +29,10 @@ mod usage;
 mod who;
 
 pub use areas::scrap_in;
-pub use block_changes::{Slid, find_slid, has_anchor};
+pub use artist::Artist;
+pub use block_changes::{Slid, find_slid};
 pub use cards::{front_length, shown_count};
+pub use changes::show_changes;
 pub use deeds::{Deed, answer, holds_unless, is_wanted, rest_fault, step_of};
 pub use drawn::Drawn;
 pub use excerpt::{count_made, excerpt_fault};
@@ -35,7 +40,7 @@ pub use flex_cards::next_fresh;
 pub use heap_cards::{Band, Survey, chain_place, is_changed, message_at, take_survey};
 pub use letters::{Waits, has_letterboxes, has_letters, held_entry, waits_of};
 pub use lists::Lists;
-pub use post_changes::goes_back;
+pub use page_changes::freed_of;
 pub use running::{map_script, map_whole, run_fault};
 pub use slots::count_tasks;
 pub use steps::Above;

@@ -40,7 +40,7 @@ pub fn print_freed<P: Pen>(pages: &[u16], pen: &mut P)
 }
 
 /// Writes what has changed, behind two spaces.
-pub(crate) fn print_change<P: Pen>(change: &Row, pen: &mut P)
+pub fn print_change<P: Pen>(change: &Row, pen: &mut P)
     requires { length change.now ≤ 200 }
     ensures { P.offered pen.new ≡ P.offered pen.old ++ (shown_line (codes "  " ++ change.now) ++ codes "\n") }
 {

@@ -36,7 +36,8 @@ pub use cards::{
 };
 pub use cells::cell_mark;
 pub use changes::{
-    add_slot_name, area_takes, freed, print_area_takes, print_freed, print_slot_takes, slot_takes,
+    add_slot_name, area_takes, freed, print_area_takes, print_change, print_freed,
+    print_slot_takes, slot_takes,
 };
 pub use front::Front;
 pub use headings::{

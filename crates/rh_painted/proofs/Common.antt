@@ -84,4 +84,4 @@ pub use Rattle.rh_painted.specs.Inner.PaintedSteps.{happened_at}
 pub use Rattle.rh_painted.specs.Ways.{arrow_of, arrows_seen}
 pub use Rattle.rh_painted.specs.declared.painter.Painter.{Painter}
 pub use Rattle.rh_painted.specs.declared.ways.Way.{Way}
-pub use Rattle.rh_painted.proofs.TextPuts.{left_from, left_last, offered_none}
+pub use Rattle.rh_drawn.proofs.TextPuts.{left_from, left_last, offered_none}

@@ -1,11 +1,7 @@
-pub mod TextWalks
-pub mod TextPuts
 pub mod BandLemmas
 pub mod SlotLemmas
 pub mod LensLemmas
-pub mod ElementLemmas
 pub mod OwnerLemmas
-pub mod ReturnLemmas
 mod WalkLemmas
 mod LineLemmas
 mod SheetLemmas

@@ -115,11 +115,3 @@ module _ {d : Desk} (numbers : List ℕ) (shared : IsShared (share_in numbers d)
 pub if-none : {A : Type 0} {P Q : Type 0} (o : Option A) → IfNone o P → (P → Q) → IfNone o Q
 if-none None p f = f p
 if-none (Some x) p f = tt
-
--- what an owner has taken, where it has more than before
-pub takes-one : (x : Scene) (h : Holding) → count_of h.0 x.before.holdings < h.1
-    → flat_map change_item (takes_text x h) ≡ change_item (taken_line (owner_name x.desk h.0) (taken_pages x h))
-takes-one x h low =
-    let on : nat_lt (count_of h.0 x.before.holdings) h.1 ≡ true = grind (arith, nat_tests) in
-    ap (λ b. flat_map change_item (if b then taken_line (owner_name x.desk h.0) (taken_pages x h) ∷ [] else [])) on
-    ∙ append-nil (change_item (taken_line (owner_name x.desk h.0) (taken_pages x h)))

@@ -20,7 +20,7 @@ use Rattle.rh_drawn.specs.Inner.TransferWays.{comes_alone, goes_out}
 use Rattle.rh_drawn.proofs.PostLemmas.{held-are, letters-are, waits-are}
 use Rattle.rh_drawn.proofs.TransferLemmas.{are_some, filter-flat, in-id, ins, map-flat, outs}
 use Rattle.rh_painted.specs.Inner.Transfers.{alone_among}
-use Rattle.rh_painted.proofs.TextWalks.{text-flat}
+use Rattle.rh_drawn.proofs.TextWalks.{text-flat}
 
 -- ---- tables
 

@@ -13,7 +13,7 @@ use Rattle.rh_painted.specs.Inner.PaintedSteps.{DrewLine, DrewRest}
 use Rattle.rh_painted.specs.PaintedWalks.{BrokePainting, BrokePaintedRest, TookPaintedRest}
 use Rattle.rh_painted.proofs.LineLemmas.{SameRead, same-line, same-rest}
 use Rattle.rh_painted.proofs.RunLemmas.{kept-some}
-use Rattle.rh_painted.proofs.TextPuts.{text_then}
+use Rattle.rh_drawn.proofs.TextPuts.{text_then}
 use Rattle.rh_painted.proofs.WalkLemmas.{place-behind}
 
 -- ---- a line as far as it is kept

@@ -1,7 +1,8 @@
 //! The owners of pages, one after the other.
 
 ghost use Rattle.std.specs.Prelude.{◌≡◌, ◌≤◌, ◌<◌, ◌+◌, ◌++◌, IfNone, IfSome, length, slice_get, None};
-ghost use Rattle.rh_defs.specs.declared.sizes.TheConstants.{FIXED_AREAS, MAX_AREAS};
+ghost use Rattle.rh_defs.specs.declared.sizes.TheConstants.{FIXED_AREAS, MAX_AREAS, MAX_PAGES};
+ghost use Rattle.rh_figure.specs.Changes.{taken_line};
 ghost use Rattle.rh_figure.specs.Share.{holdings};
 ghost use Rattle.rh_lines.specs.declared.row.TheConstants.{ROW};
 ghost use Rattle.rh_painted.specs.PaintedOwners.{IsOwnerSeen, name_seen, tag_seen, tint_seen, who_seen};
@@ -14,7 +15,7 @@ use rh_defs::{Handle, Name};
 use rh_draw::Tint;
 use rh_drawn::count_made;
 use rh_lines::Row;
-use rh_map::{add_area_name, add_slot_name};
+use rh_map::{add_area_name, add_slot_name, area_takes, slot_takes};
 use rh_sheet::sizes::TAG_LETTERS;
 use rh_sight::{Owner, PagesOf, Sight};
 
@@ -141,6 +142,18 @@ impl<'a> Named<'a> {
             Named::Area(number) => area_tag(*number),
             Named::Slot(_, name) => slot_tag(name),
         }
+    }
+}
+
+/// That an owner takes these pages.
+pub fn takes_told(named: &Named<'_>, pages: &[u16]) -> Row
+    requires { length pages.now ≤ MAX_PAGES }
+    ensures value { result ≡ taken_line (name_seen named.now) pages.now }
+    ensures few { length result ≤ 200 }
+{
+    match named {
+        Named::Area(number) => area_takes(*number, pages),
+        Named::Slot(_, name) => slot_takes(name, pages),
     }
 }
 

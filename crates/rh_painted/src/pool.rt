@@ -12,12 +12,12 @@ ghost use Rattle.rh_sheet.specs.Pool.{freed_squares, owner_classes, owner_senten
 ghost use Rattle.rh_sheet.specs.Pool.{pool_description, pool_figure, pool_height as height_of_pool, tags_text};
 ghost use Rattle.rh_sight.specs.Steps.{IsStepOf, scene_at};
 
-use crate::owners::{Named, OwnerSight, owner_at};
-use crate::page_changes::{freed_of, takes_told};
+use crate::owners::{Named, OwnerSight, owner_at, takes_told};
 use rh_draw::{
     add_tint, print_described, print_figure_end, print_figure_open, print_pool_side, print_squares,
     print_tags, put_escaped,
 };
+use rh_drawn::freed_of;
 use rh_lines::{Pen, Row};
 use rh_map::{add_numbers, freed};
 use rh_sheet::sizes::{CELL, FIGURE_WIDTH, FRAME_EDGE, POOL_COLUMNS};

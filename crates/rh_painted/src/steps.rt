@@ -3,19 +3,16 @@
 ghost use Rattle.std.specs.Prelude.{◌≡◌, ◌≤◌, ◌++◌, ◌∷◌, ℕ, List, [], length};
 ghost use Rattle.std.specs.List.{concat};
 ghost use Rattle.rh_drawn.specs.DrawnReplies.{Excerpts};
-ghost use Rattle.rh_figure.specs.Changes.{changes};
 ghost use Rattle.rh_figure.specs.Phrases.{where_so};
-ghost use Rattle.rh_sheet.specs.SheetSteps.{changes_text, said_end, step_end, step_text};
+ghost use Rattle.rh_sheet.specs.SheetSteps.{said_end, step_end, step_text};
 ghost use Rattle.rh_sight.specs.Steps.{IsStepOf, scene_at};
 ghost use Rattle.rh_defs.specs.Post.{most_messages};
 
-use crate::block_changes::print_block_changes;
 use crate::figure::print_figure;
 use crate::notes::Notes;
-use crate::page_changes::print_page_changes;
-use crate::post_changes::print_post_changes;
+use crate::sheet_artist::SheetArtist;
 use rh_draw::{print_said, print_still};
-use rh_drawn::{Above, Lists};
+use rh_drawn::{Above, Lists, show_changes};
 use rh_lines::Pen;
 use rh_sight::{Sight, Step};
 
@@ -48,7 +45,7 @@ pub fn print_step<S: Sight, P: Pen>(
         print_end(pen);
         return;
     }
-    print_changes(sight, step, lists, pen);
+    show_changes(sight, step, lists, &SheetArtist, pen);
     pen.put(SAID_END);
     print_figure(sight, step, notes, above.number, lists, pen);
     pen.put(STEP_END);
@@ -70,14 +67,4 @@ fn print_end<P: Pen>(pen: &mut P)
 {
     pen.put(SAID_END);
     pen.put(STEP_END);
-}
-
-/// Writes what a step has changed: of the pool, of the named task's flex blocks, and of the messages.
-fn print_changes<S: Sight, P: Pen>(sight: &S, step: &Step<'_>, lists: &mut Lists, pen: &mut P)
-    requires { IsStepOf (S.desk sight.now) step.now }
-    ensures { P.offered pen.new ≡ P.offered pen.old ++ changes_text (changes (scene_at (S.desk sight.now) step.now)) }
-{
-    print_page_changes(sight, step, pen);
-    print_block_changes(sight, step, &mut lists.blocks, pen);
-    print_post_changes(sight, step, pen);
 }

@@ -1,10 +1,9 @@
 -- The parts of a step that are written one by one.
 use Rattle.std.specs.Prelude.{List, codes}
 use Rattle.rh_defs.specs.Desk.{Task}
-use Rattle.rh_figure.specs.Share.{Holding}
 use Rattle.rh_figure.specs.Phrases.{Text}
 use Rattle.rh_figure.specs.Scene.{Scene}
-use Rattle.rh_figure.specs.Changes.{changes, takes_text}
+use Rattle.rh_figure.specs.Changes.{changes}
 use Rattle.rh_figure.specs.Figure.{slot_panel}
 use Rattle.rh_figure.specs.Map.{heading_line, marked_heading}
 use Rattle.rh_drawn.specs.Parts.{indented, slot_panels}
@@ -13,10 +12,6 @@ use Rattle.rh_drawn.specs.Parts.{indented, slot_panels}
 abbrev pub slot_heading : Scene → Task → Text
 slot_heading x t =
     heading_line (marked_heading (slot_panels x) (codes "Slot ") (slot_panel x t)) (slot_panel x t).note
-
--- what an owner has taken
-abbrev pub takes_part : Scene → Holding → List Text
-takes_part x o = indented (takes_text x o)
 
 abbrev pub change_part : Scene → List Text
 change_part x = indented (changes x)

@@ -4,7 +4,7 @@ use Rattle.rh_painted.proofs.Common.{owned-few, seen-fixed, offered_as}
 use Rattle.rh_figure.specs.Figure.{area_panel, fixed_note, listed_pages, numbers_text, scrap_text}
 use Rattle.rh_sight.specs.declared.sight.PagesOf.TheVariants as pages
 use Rattle.rh_drawn.proofs.PageLemmas.{owned-fixed}
-use Rattle.rh_painted.proofs.TextPuts.{text_last}
+use Rattle.rh_drawn.proofs.TextPuts.{text_last}
 use Rattle.rh_painted.proofs.areas.print_fixed.Goals as goal
 
 -- the heading of an area that has pages, and isn't the module area

@@ -4,7 +4,7 @@ use Rattle.rh_defs.specs.Desk.{Made}
 use Rattle.rh_figure.specs.Figure.{listed_pages, made_note}
 use Rattle.rh_sight.specs.declared.sight.PagesOf.TheVariants as pages
 use Rattle.rh_drawn.proofs.PageLemmas.{owned-made, seen-made}
-use Rattle.rh_painted.proofs.TextWalks.{text-none, text-some}
+use Rattle.rh_drawn.proofs.TextWalks.{text-none, text-some}
 use Rattle.rh_painted.proofs.areas.print_made.Goals as goal
 
 note-same : (most n : ℕ) (found kept : List ℕ) → length found ≡ n → found ≡ kept

@@ -1,6 +1,6 @@
 use Rattle.rh_painted.proofs.Common.{List, ap, Note, figure_text, scene_at, offered_as}
 use Rattle.rh_sheet.specs.SheetSteps.{aside_text}
-use Rattle.rh_painted.proofs.TextPuts.{text_then}
+use Rattle.rh_drawn.proofs.TextPuts.{text_then}
 use Rattle.rh_painted.proofs.figure.print_figure.Goals as goal
 
 pub returns : goal.returns

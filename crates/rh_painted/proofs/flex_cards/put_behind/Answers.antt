@@ -5,7 +5,7 @@ use Rattle.rh_figure.specs.Cards.{more_card}
 use Rattle.rh_figure.specs.Layout.{is_fresh_flex}
 use Rattle.rh_drawn.specs.DrawnCards.{place_behind}
 use Rattle.rh_drawn.proofs.CardLemmas.{behind-are, flex-picked, flex-unpicked}
-use Rattle.rh_painted.proofs.TextPuts.{text_last, text_then}
+use Rattle.rh_drawn.proofs.TextPuts.{text_last, text_then}
 use Rattle.rh_painted.proofs.flex_cards.put_behind.Goals as goal
 
 pub offset_bounds-blocks-k : goal.offset_bounds-blocks-k

@@ -3,7 +3,7 @@ use Rattle.rh_painted.proofs.Common.{flex-long, seen-same, offered_as, band_text
 use Rattle.rh_drawn.specs.DrawnCards.{count_shown}
 use Rattle.rh_drawn.proofs.CardLemmas.{count-few, count-many, count-within, shown-few, shown-parts, some-count}
 use Rattle.rh_painted.proofs.BandLemmas.{shown-behind}
-use Rattle.rh_painted.proofs.TextPuts.{text_then}
+use Rattle.rh_drawn.proofs.TextPuts.{text_then}
 use Rattle.rh_painted.proofs.flex_cards.put_flex_cards.Goals as goal
 
 pub put_first-requires-clause-few : goal.put_first-requires-clause-few

@@ -4,7 +4,7 @@ use Rattle.rh_figure.specs.Cards.{more_card}
 use Rattle.rh_drawn.specs.Bands.{IsSurvey, band_card}
 use Rattle.rh_drawn.proofs.CardLemmas.{behind-are}
 use Rattle.rh_drawn.proofs.HeapLemmas.{band-heap, band-long, band-none, band-some}
-use Rattle.rh_painted.proofs.TextPuts.{text_last, text_then}
+use Rattle.rh_drawn.proofs.TextPuts.{text_last, text_then}
 use Rattle.rh_painted.proofs.heap_cards.put_behind.Goals as goal
 
 pub put_segment-requires-clause-segment : goal.put_segment-requires-clause-segment

@@ -5,7 +5,7 @@ use Rattle.rh_drawn.specs.DrawnCards.{count_shown}
 use Rattle.rh_drawn.proofs.CardLemmas.{count-few, count-many, count-most, count-within, shown-few, shown-parts, some-count}
 use Rattle.rh_drawn.proofs.HeapLemmas.{band-long, band-many}
 use Rattle.rh_painted.proofs.BandLemmas.{shown-behind}
-use Rattle.rh_painted.proofs.TextPuts.{text_then}
+use Rattle.rh_drawn.proofs.TextPuts.{text_then}
 use Rattle.rh_painted.proofs.heap_cards.put_heap_cards.Goals as goal
 
 pub put_first-requires-clause-few : goal.put_first-requires-clause-few

@@ -1,7 +1,7 @@
 use Rattle.rh_painted.proofs.Common.{◌≡◌, ◌<◌, ◌∙◌, length, ap, ap₂, refl, arith, flat_map, slice_get_within, Task, letterboxes_in}
 use Rattle.rh_painted.proofs.Common.{letterboxes, letterbox_row, scene_at, left_less, left_none, left_from, offered_as}
 use Rattle.rh_painted.proofs.TableLemmas.{boxes, boxes-are}
-use Rattle.rh_painted.proofs.TextWalks.{text-flat, text-none, text-some}
+use Rattle.rh_drawn.proofs.TextWalks.{text-flat, text-none, text-some}
 use Rattle.rh_painted.proofs.letters.print_letterboxes.Goals as goal
 
 pub tasks-init : goal.tasks-init

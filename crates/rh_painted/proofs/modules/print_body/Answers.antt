@@ -9,7 +9,7 @@ use Rattle.rh_sheet.specs.SheetRows.{rows_text}
 use Rattle.rh_sight.specs.declared.sight.PagesOf.TheVariants as pages
 use Rattle.rh_drawn.proofs.PageLemmas.{owned-fixed}
 use Rattle.rh_painted.proofs.SlotLemmas.{EndsBy, heap-ends}
-use Rattle.rh_painted.proofs.TextPuts.{text_last, text_then}
+use Rattle.rh_drawn.proofs.TextPuts.{text_last, text_then}
 use Rattle.rh_painted.proofs.modules.print_body.Goals as goal
 
 pub print_lens_below-requires : goal.print_lens_below-requires

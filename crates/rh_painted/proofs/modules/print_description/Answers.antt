@@ -2,7 +2,7 @@ use Rattle.rh_painted.proofs.Common.{ap, sym, flat_map-append, module_cards, sho
 use Rattle.rh_sheet.specs.SheetAreas.{pages_sentence}
 use Rattle.rh_sheet.specs.SheetCards.{cards_sentences}
 use Rattle.rh_painted.proofs.BandLemmas.{told-all}
-use Rattle.rh_painted.proofs.TextPuts.{text_then}
+use Rattle.rh_drawn.proofs.TextPuts.{text_then}
 use Rattle.rh_painted.proofs.modules.print_description.Goals as goal
 
 pub returns : goal.returns

@@ -1,6 +1,6 @@
 use Rattle.rh_painted.proofs.Common.{◌++◌, ap, ◌∙◌, area_name, heading_text, offered_as}
 use Rattle.rh_figure.specs.Phrases.{pages_text}
-use Rattle.rh_painted.proofs.TextPuts.{text_then}
+use Rattle.rh_drawn.proofs.TextPuts.{text_then}
 use Rattle.rh_painted.proofs.modules.print_module_part.Goals as goal
 
 pub returns : goal.returns

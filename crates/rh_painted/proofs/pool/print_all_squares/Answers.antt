@@ -1,6 +1,6 @@
 use Rattle.rh_painted.proofs.Common.{◌<◌, length, refl, arith, flat_map, slice_get_within, holdings, left_less, left_none, scene_at}
 use Rattle.rh_sheet.specs.Pool.{owner_squares}
-use Rattle.rh_painted.proofs.TextWalks.{text-none, text-some}
+use Rattle.rh_drawn.proofs.TextWalks.{text-none, text-some}
 use Rattle.rh_painted.proofs.pool.print_all_squares.Goals as goal
 
 pub overflow_add-k : goal.overflow_add-k

@@ -3,7 +3,7 @@ use Rattle.rh_painted.proofs.Common.{scene_at, offered_as, who_seen}
 use Rattle.rh_sheet.specs.Owners.{owner_tag}
 use Rattle.rh_sheet.specs.Pool.{tag_text, tags_text}
 use Rattle.rh_painted.proofs.OwnerLemmas.{owner-pages}
-use Rattle.rh_painted.proofs.TextWalks.{text-none, text-some}
+use Rattle.rh_drawn.proofs.TextWalks.{text-none, text-some}
 use Rattle.rh_painted.proofs.pool.print_all_tags.Goals as goal
 
 pub overflow_add-k : goal.overflow_add-k

@@ -1,6 +1,6 @@
 use Rattle.rh_painted.proofs.Common.{ap₂, offered_as}
 use Rattle.rh_sheet.specs.Pool.{pool_side}
-use Rattle.rh_painted.proofs.TextPuts.{text_last, text_then}
+use Rattle.rh_drawn.proofs.TextPuts.{text_last, text_then}
 use Rattle.rh_painted.proofs.pool.print_body.Goals as goal
 
 pub returns : goal.returns

@@ -3,7 +3,7 @@ use Rattle.rh_painted.proofs.Common.{slice_get_within, Desk, Text, owner_name, S
 use Rattle.rh_painted.proofs.Common.{escaped_byte, scene_at, left_last, offered_as, who_seen}
 use Rattle.rh_defs.specs.Desk.{free_pages}
 use Rattle.rh_sheet.specs.Pool.{free_text, owner_sentence}
-use Rattle.rh_painted.proofs.ElementLemmas.{elements-none, elements-some}
+use Rattle.rh_drawn.proofs.ElementLemmas.{elements-none, elements-some}
 use Rattle.rh_painted.proofs.pool.print_description.Goals as goal
 
 abbrev sentence : Scene → Holding → Text

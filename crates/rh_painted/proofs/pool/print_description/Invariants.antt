@@ -1,7 +1,7 @@
 use Rattle.rh_painted.proofs.Common.{◌-◌, ◌++◌, length, drop, codes, owner_name, Holding, holdings, Left, escape, escaped_byte, scene_at}
 use Rattle.rh_defs.specs.Desk.{free_pages}
 use Rattle.rh_sheet.specs.Pool.{free_text, owner_sentence, pool_description}
-use Rattle.rh_painted.proofs.ElementLemmas.{elements}
+use Rattle.rh_drawn.proofs.ElementLemmas.{elements}
 use Rattle.rh_painted.proofs.pool.print_description.Given as goal
 
 -- the owners from the place on are left, and how many pages are free

@@ -5,7 +5,7 @@ use Rattle.rh_figure.specs.Phrases.{listed_numbers}
 use Rattle.rh_sheet.specs.Pool.{squares_text}
 use Rattle.rh_painted.specs.PaintedOwners.{name_seen}
 use Rattle.rh_painted.proofs.OwnerLemmas.{owner-few, owner-pages}
-use Rattle.rh_painted.proofs.TextPuts.{text_then}
+use Rattle.rh_drawn.proofs.TextPuts.{text_then}
 use Rattle.rh_painted.proofs.pool.print_owner_squares.Goals as goal
 
 squares-same : (class class' tip tip' : Text) (ks ks' : List ℕ) → class ≡ class' → ks ≡ ks' → tip ≡ tip'

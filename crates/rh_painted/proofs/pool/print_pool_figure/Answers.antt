@@ -1,7 +1,7 @@
 use Rattle.rh_painted.proofs.Common.{ℕ, ap, ◌+◌, ◌∙◌, codes, Text, figure_open, offered_as}
 use Rattle.rh_sheet.specs.Pool.{pool_height}
 use Rattle.rh_sheet.specs.declared.sizes.TheConstants.{FIGURE_WIDTH, FRAME_EDGE}
-use Rattle.rh_painted.proofs.TextPuts.{text_last, text_then}
+use Rattle.rh_drawn.proofs.TextPuts.{text_last, text_then}
 use Rattle.rh_painted.proofs.pool.print_pool_figure.Goals as goal
 
 -- the beginning of a figure of squares that are so high

@@ -19,7 +19,7 @@ use Rattle.rh_painted.specs.PaintedBands.{band_text}
 use Rattle.rh_painted.specs.declared.bands.Form.TheVariants.{Below}
 use Rattle.rh_painted.proofs.LensLemmas.{arrow-same}
 use Rattle.rh_painted.proofs.SlotLemmas.{EndsBy, anchors-small, slot-ends}
-use Rattle.rh_painted.proofs.TextPuts.{text_last, text_then}
+use Rattle.rh_drawn.proofs.TextPuts.{text_last, text_then}
 use Rattle.rh_painted.proofs.slots.print_body.Goals as goal
 
 -- the arrow of a task's slide, by its parts

@@ -12,7 +12,7 @@ use Rattle.rh_drawn.specs.Bands.{card_of_task}
 use Rattle.rh_painted.specs.PaintedBands.{band_text}
 use Rattle.rh_painted.specs.declared.bands.Form.TheVariants.{Told}
 use Rattle.rh_painted.proofs.BandLemmas.{told-all}
-use Rattle.rh_painted.proofs.TextPuts.{text_then}
+use Rattle.rh_drawn.proofs.TextPuts.{text_then}
 use Rattle.rh_painted.proofs.slots.print_description.Goals as goal
 
 -- the parts of what is read out, as they are written

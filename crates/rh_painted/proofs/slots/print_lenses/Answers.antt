@@ -5,7 +5,7 @@ use Rattle.rh_figure.specs.Cards.{heap_card}
 use Rattle.rh_sight.specs.declared.sight.PagesOf.TheVariants as pages
 use Rattle.rh_drawn.proofs.PageLemmas.{owned-slot}
 use Rattle.rh_painted.proofs.LensLemmas.{above-same, below-same}
-use Rattle.rh_painted.proofs.TextPuts.{text_then}
+use Rattle.rh_drawn.proofs.TextPuts.{text_then}
 use Rattle.rh_painted.proofs.slots.print_lenses.Goals as goal
 
 pub overflow_cast-count : goal.overflow_cast-count

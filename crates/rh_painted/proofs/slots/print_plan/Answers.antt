@@ -1,6 +1,6 @@
 use Rattle.rh_painted.proofs.Common.{◌++◌, ap, ap₂, ◌∙◌, codes, figure_open, IsTaskSeen, scene_at, seen-same, offered_as, IsSlotPlan}
 use Rattle.rh_sheet.specs.Frames.{frame_height}
-use Rattle.rh_painted.proofs.TextPuts.{text_last, text_then}
+use Rattle.rh_drawn.proofs.TextPuts.{text_last, text_then}
 use Rattle.rh_painted.proofs.slots.print_plan.Goals as goal
 
 pub returns : goal.returns

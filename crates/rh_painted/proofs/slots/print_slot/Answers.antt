@@ -1,7 +1,7 @@
 use Rattle.rh_painted.proofs.Common.{◌≡◌, ◌++◌, Bool, true, false, ap, sym, ◌∙◌, where_so, heading_text, IsTaskSeen, scene_at, seen-same, offered_as}
 use Rattle.rh_figure.specs.Figure.{is_drawn, slot_note}
 use Rattle.rh_sheet.specs.SheetAreas.{slot_figure}
-use Rattle.rh_painted.proofs.TextPuts.{text_last, text_then}
+use Rattle.rh_drawn.proofs.TextPuts.{text_last, text_then}
 use Rattle.rh_painted.proofs.slots.print_slot.Goals as goal
 
 pub returns-then-not-is_drawn : goal.returns-then-not-is_drawn

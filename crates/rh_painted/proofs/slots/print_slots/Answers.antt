@@ -1,5 +1,5 @@
 use Rattle.rh_painted.proofs.Common.{◌<◌, length, refl, arith, flat_map, slice_get_within, left_less, left_none, slot_part, scene_at}
-use Rattle.rh_painted.proofs.TextWalks.{text-none, text-some}
+use Rattle.rh_drawn.proofs.TextWalks.{text-none, text-some}
 use Rattle.rh_painted.proofs.slots.print_slots.Goals as goal
 
 pub tasks-preserved : goal.tasks-preserved

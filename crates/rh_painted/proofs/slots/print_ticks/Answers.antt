@@ -1,6 +1,6 @@
 use Rattle.rh_painted.proofs.Common.{ap, refl, ◌∙◌, BlockItem, left_less, left_none, ticks_text, offered_as}
 use Rattle.rh_sheet.specs.SheetAreas.{tick_text}
-use Rattle.rh_painted.proofs.TextWalks.{text-at, text-end}
+use Rattle.rh_drawn.proofs.TextWalks.{text-at, text-end}
 use Rattle.rh_painted.proofs.slots.print_ticks.Goals as goal
 
 pub loop-block-preserved : goal.loop-block-preserved

@@ -1,4 +1,4 @@
-use Rattle.rh_painted.proofs.TextPuts.{text_then}
+use Rattle.rh_drawn.proofs.TextPuts.{text_then}
 use Rattle.rh_painted.proofs.steps.print_end.Goals as goal
 
 pub returns : goal.returns

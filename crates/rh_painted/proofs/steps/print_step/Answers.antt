@@ -1,6 +1,6 @@
 use Rattle.rh_painted.proofs.Common.{offered_as, scene_at}
 use Rattle.rh_painted.proofs.PrintLemmas.{step-as}
-use Rattle.rh_painted.proofs.TextPuts.{text_then}
+use Rattle.rh_drawn.proofs.TextPuts.{text_then}
 use Rattle.rh_painted.proofs.steps.print_step.Goals as goal
 
 pub returns-then-above : goal.returns-then-above
@@ -17,6 +17,6 @@ returns g c = λ reply front.
     let a = c.args.above.now in
     offered_as _ (step-as a.number a.line.now reply x c.args.notes.now.items c.args.last c.if-above.false)
     (text_then (g.P.Pen.offered c.args.pen.now) _ _ (c.print_said.ensures reply front)
-    (text_then (g.P.Pen.offered c.print_said.new.pen) _ _ c.print_changes.ensures
-    (text_then (g.P.Pen.offered c.print_changes.new.pen) _ _ c.put.ensures
+    (text_then (g.P.Pen.offered c.print_said.new.pen) _ _ c.show_changes.ensures
+    (text_then (g.P.Pen.offered c.show_changes.new.pen) _ _ c.put.ensures
     (text_then (g.P.Pen.offered c.put.new.self) _ _ c.print_figure.ensures c.put-2.ensures))))

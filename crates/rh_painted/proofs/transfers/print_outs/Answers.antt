@@ -1,7 +1,7 @@
 use Rattle.rh_painted.proofs.Common.{◌≡◌, ◌<◌, length, ap₂, refl, arith, flat_map, slice_get_within, Task, ins_of, outs_of, out_rows}
 use Rattle.rh_painted.proofs.Common.{outs_named, left_less, left_none, left_from, offered_as}
 use Rattle.rh_painted.proofs.TableLemmas.{out_rows-flat}
-use Rattle.rh_painted.proofs.TextWalks.{text-none, text-some}
+use Rattle.rh_drawn.proofs.TextWalks.{text-none, text-some}
 use Rattle.rh_painted.proofs.transfers.print_outs.Goals as goal
 
 pub tasks-init : goal.tasks-init

@@ -1,6 +1,6 @@
 use Rattle.rh_painted.proofs.Common.{[], ◌∷◌, ap, ap₂, concat, offered_as, where_so, said_end, step_end}
 use Rattle.rh_sheet.specs.Sheet.{sheet_foot}
-use Rattle.rh_painted.proofs.TextPuts.{text_then}
+use Rattle.rh_drawn.proofs.TextPuts.{text_then}
 use Rattle.rh_painted.proofs.painter.Painter.end.Goals as goal
 
 pub returns : goal.returns

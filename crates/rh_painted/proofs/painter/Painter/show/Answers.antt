@@ -3,7 +3,7 @@ use Rattle.rh_drawn.specs.DrawnReplies.{Excerpts}
 use Rattle.rh_sight.specs.SightPages.{share_in}
 use Rattle.rh_sight.specs.Steps.{marks_seen}
 use Rattle.rh_painted.specs.PaintedProgress.{stand_shown}
-use Rattle.rh_painted.proofs.TextPuts.{text_then}
+use Rattle.rh_drawn.proofs.TextPuts.{text_then}
 use Rattle.rh_painted.proofs.painter.Painter.show.Goals as goal
 
 pub returns-clause-text : goal.returns-clause-text

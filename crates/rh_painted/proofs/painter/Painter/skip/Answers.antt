@@ -7,7 +7,7 @@ use Rattle.rh_sheet.specs.Sheet.{is_shown_remark}
 use Rattle.rh_sheet.specs.SheetSteps.{step_open}
 use Rattle.rh_sheet.specs.declared.sizes.TheConstants.{MOST_STEPS}
 use Rattle.rh_painted.proofs.StepLemmas.{skip-hidden, skip-shown}
-use Rattle.rh_painted.proofs.TextPuts.{text_then}
+use Rattle.rh_drawn.proofs.TextPuts.{text_then}
 use Rattle.rh_painted.proofs.painter.Painter.skip.Goals as goal
 
 pub returns-then-not-shows-clause-drew : goal.returns-then-not-shows-clause-drew
