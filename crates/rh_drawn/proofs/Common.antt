@@ -69,6 +69,6 @@ pub use Rattle.rh_drawn.specs.Inner.ReturnLines.{return_lines}
 pub use Rattle.rh_drawn.specs.DrawnPlaces.{Drew, TookLine, place_in}
 pub use Rattle.rh_drawn.specs.DrawnReplies.{Excerpts}
 pub use Rattle.rh_drawn.specs.DrawnSides.{ins_of, outs_of}
-pub use Rattle.rh_drawn.specs.Inner.TransferWays.{comes_alone, goes_out}
+pub use Rattle.rh_drawn.specs.Inner.TransferWays.{alone_among, comes_alone, goes_out, ins_named, outs_named}
 pub use Rattle.rh_drawn.specs.DrawnSlides.{summary_of}
 pub use Rattle.rh_drawn.specs.declared.mapper.Mapper.{Mapper}

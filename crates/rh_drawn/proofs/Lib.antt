@@ -6,6 +6,7 @@ pub mod TextWalks
 pub mod TextPuts
 pub mod ElementLemmas
 pub mod PageLemmas
+pub mod UnderLemmas
 pub mod PostLemmas
 pub mod ReturnLemmas
 pub mod DrawingLemmas

@@ -26,6 +26,7 @@ use Rattle.rh_drawn.specs.Bands.{place_seen}
 use Rattle.rh_drawn.specs.Inner.BandItems.{IsItemOf}
 use Rattle.rh_drawn.specs.DrawnLetters.{entry_seen}
 use Rattle.rh_drawn.specs.Inner.LettersBehind.{letterbox_in}
+use Rattle.rh_drawn.proofs.UnderLemmas.{is_some, some-more}
 
 -- ---- what waits for a task
 
@@ -288,42 +289,37 @@ letters-are name h ms o ws held waits = go (has_letters_in h ms) refl o ws held 
     go true e (Some p) [] held waits = ap (λ z. z ∷ []) (here (Some p) [] held waits)
     go true e (Some p) (w ∷ ws) held waits = ap (λ z. z ∷ []) (here (Some p) (w ∷ ws) held waits)
 
--- the lines of a task's letterbox
-abbrev pub boxes : List MessageItem → Task → List Text
-boxes ms t = map letterbox_line (letterboxes_in t.name t.handle ms)
+abbrev pub boxes : List MessageItem → Task → List Letterbox
+boxes ms t = letterboxes_in t.name t.handle ms
+
+-- the letterbox of a task, as a figure has it
+abbrev figured : Desk → Task → List Letterbox
+figured d t = figure.letterbox_of t.name (held_list (held_by t.handle d.post.seats)) (filter (is_to t.handle) d.post.queued)
 
 -- the letterboxes of a figure, by the list of messages
 pub boxes-are : {d : Desk} (is : IsDesk d) (ms : List MessageItem) → ms ≡ message_items d → (ts : List Task)
-    → map letterbox_line (flat_map (λ (t : Task). figure.letterbox_of t.name (held_list (held_by t.handle d.post.seats))
-    (filter (is_to t.handle) d.post.queued)) ts) ≡ flat_map (boxes ms) ts
+    → flat_map (figured d) ts ≡ flat_map (boxes ms) ts
 boxes-are is ms e [] = refl
 boxes-are {d} is ms e (t ∷ ts) =
-    map-append letterbox_line (figure.letterbox_of t.name (held_list (held_by t.handle d.post.seats)) (filter (is_to t.handle) d.post.queued))
-    (flat_map (λ (u : Task). figure.letterbox_of u.name (held_list (held_by u.handle d.post.seats)) (filter (is_to u.handle) d.post.queued)) ts)
-    ∙ ap₂ (λ x y. x ++ y)
-    (ap (map letterbox_line) (sym (letters-are t.name t.handle ms (held_by t.handle d.post.seats) (filter (is_to t.handle) d.post.queued)
-    (ap (find (is_held_by t.handle)) e ∙ held-are is t.handle) (ap (filter (waits_for t.handle)) e ∙ waits-are is t.handle))))
-    (boxes-are is ms e ts)
+    let held = ap (find (is_held_by t.handle)) e ∙ held-are is t.handle in
+    let waits = ap (filter (waits_for t.handle)) e ∙ waits-are is t.handle in
+    let queued = filter (is_to t.handle) d.post.queued in
+    ap₂ (λ x y. x ++ y) (sym (letters-are t.name t.handle ms (held_by t.handle d.post.seats) queued held waits)) (boxes-are is ms e ts)
 
--- where no task has a message there is no letterbox, and else there are some
-pub boxes-none : (ms : List MessageItem) (ts : List Task) → list_any (λ (t : Task). has_letters_in t.handle ms) ts ≡ false → flat_map (boxes ms) ts ≡ []
-boxes-none ms [] e = refl
-boxes-none ms (t ∷ ts) e = go (boxes-none ms ts) (has_letters_in t.handle ms) refl
+-- there is a letterbox where some task has a message
+boxes-some : (ms : List MessageItem) (ts : List Task) → list_any (λ (t : Task). has_letters_in t.handle ms) ts ≡ is_some (flat_map (boxes ms) ts)
+boxes-some ms [] = refl
+boxes-some ms (t ∷ ts) = go (has_letters_in t.handle ms) refl (boxes-some ms ts)
   where
-    go : (list_any (λ (u : Task). has_letters_in u.handle ms) ts ≡ false → flat_map (boxes ms) ts ≡ []) → (b : Bool) → has_letters_in t.handle ms ≡ b
-        → flat_map (boxes ms) (t ∷ ts) ≡ []
-    go before true k = let q : true ≡ false = rw k at e in absurd (cc)
-    go before false k = let q : list_any (λ (u : Task). has_letters_in u.handle ms) ts ≡ false = rw k at e in rw k (before q)
+    go : (b : Bool) → has_letters_in t.handle ms ≡ b → list_any (λ (u : Task). has_letters_in u.handle ms) ts ≡ is_some (flat_map (boxes ms) ts)
+        → list_any (λ (u : Task). has_letters_in u.handle ms) (t ∷ ts) ≡ is_some (flat_map (boxes ms) (t ∷ ts))
+    go true e rest = rw e (sym (some-more (letterbox_in t.name t.handle ms) (flat_map (boxes ms) ts)))
+    go false e rest = rw e rest
 
-pub boxes-some : (heading : Text) (ms : List MessageItem) (ts : List Task) → list_any (λ (t : Task). has_letters_in t.handle ms) ts ≡ true
-    → under heading (flat_map (boxes ms) ts) ≡ heading ∷ flat_map (boxes ms) ts
-boxes-some heading ms [] e = absurd (cc)
-boxes-some heading ms (t ∷ ts) e = go (boxes-some heading ms ts) (has_letters_in t.handle ms) refl
-  where
-    go : (list_any (λ (u : Task). has_letters_in u.handle ms) ts ≡ true → under heading (flat_map (boxes ms) ts) ≡ heading ∷ flat_map (boxes ms) ts)
-        → (b : Bool) → has_letters_in t.handle ms ≡ b → under heading (flat_map (boxes ms) (t ∷ ts)) ≡ heading ∷ flat_map (boxes ms) (t ∷ ts)
-    go before true k = rw k refl
-    go before false k = let q : list_any (λ (u : Task). has_letters_in u.handle ms) ts ≡ true = rw k at e in rw k (before q)
+-- the same of a figure
+pub boxes-told : {d : Desk} → IsDesk d → (ms : List MessageItem) → ms ≡ message_items d
+    → is_some (flat_map (figured d) d.tasks) ≡ list_any (λ (t : Task). has_letters_in t.handle ms) d.tasks
+boxes-told {d} is ms e = ap is_some (boxes-are is ms e d.tasks) ∙ sym (boxes-some ms d.tasks)
 
 -- ---- where a message stands in its chain
 

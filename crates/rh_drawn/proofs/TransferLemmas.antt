@@ -1,14 +1,16 @@
 -- The sides of transfers, task by task.
 use Rattle.rh_drawn.proofs.Common.{◌≡◌, ℕ, Bool, true, false, arith, refl, ap, ap₂, sym, ◌∙◌, List, [], ◌∷◌, ◌++◌, length, map, Option, Some, None, ◌==◌}
 use Rattle.rh_drawn.proofs.Common.{◌||◌, not, filter, find, flat_map, list_any, option_map, ne_eqb, map-append, Incoming, Outgoing, Task}
-use Rattle.rh_drawn.proofs.Common.{in_item, out_item, in_id, Side, has_id, transfer_line, under, Text, comes_alone, goes_out}
+use Rattle.rh_drawn.proofs.Common.{in_item, out_item, in_id, Side, has_id, Text, append-nil, alone_among, comes_alone, goes_out, ins_named, outs_named}
 use Rattle.std.proofs.lemmas.List.Elements.{filter-append}
 use Rattle.std.proofs.lemmas.List.Folds.{find-append, list_any-append}
 use Rattle.rh_defs.specs.declared.question.RecordItem.{RecordItem}
 use Rattle.rh_defs.specs.declared.transfer.Incoming.TheVariants as incoming
 use Rattle.rh_defs.specs.declared.transfer.Outgoing.TheVariants as outgoing
 use Rattle.rh_defs.specs.Records.{out_id}
-use Rattle.rh_figure.specs.Figure.{transfers_of}
+use Rattle.rh_figure.specs.Figure.{Transfer, transfers_of}
+use Rattle.rh_drawn.proofs.TextWalks.{text-flat}
+use Rattle.rh_drawn.proofs.UnderLemmas.{is_some, some-more}
 
 -- ---- lists of lists
 
@@ -36,10 +38,10 @@ in-id (incoming.Failed id anchor count) = refl
 
 -- the sides of a task
 abbrev pub outs : Task → List Side
-outs t = map (λ r. (t.name, out_item r)) t.sending
+outs t = outs_named t.name t.sending
 
 abbrev pub ins : Task → List Side
-ins t = map (λ r. (t.name, in_item r)) t.taking
+ins t = ins_named t.name t.taking
 
 pub find-in : (name : Text) (id : ℕ) (rs : List Incoming)
     → find (has_id id) (map (λ r. let s : Side = (name, in_item r) in s) rs) ≡ option_map (λ r. let s : Side = (name, in_item r) in s)
@@ -136,11 +138,35 @@ some-past t ts e = go t.sending t.taking e
     go (r ∷ rs) b e = let k : false ≡ true = sym e ∙ some-left r rs b in absurd (cc)
     go [] (r ∷ rs) e = let k : false ≡ true = sym e ∙ some-right (let no : List Outgoing = [] in no) r rs in absurd (cc)
 
-pub transfers-some : (heading : Text) (out in_ : List Side) → are_some out in_ ≡ true
-    → under heading (map transfer_line (transfers_of out in_)) ≡ heading ∷
-    (map transfer_line (map (goes_out in_) out) ++ map transfer_line (map comes_alone (filter (λ (s : Side). not (list_any (has_id s.1.id) out)) in_)))
-transfers-some heading [] [] e = absurd (cc)
-transfers-some heading (s ∷ out) in_ e =
-    ap (λ z. heading ∷ z) (map-append transfer_line (map (goes_out in_) (s ∷ out))
-    (map comes_alone (filter (λ (u : Side). not (list_any (has_id u.1.id) (s ∷ out))) in_)))
-transfers-some heading [] (s ∷ in_) e = refl
+pub sides-some : (out in_ : List Side) → are_some out in_ ≡ is_some (transfers_of out in_)
+sides-some [] [] = refl
+sides-some (s ∷ out) in_ =
+    ap (λ z. z || is_some in_) (some-more s out)
+    ∙ sym (some-more (goes_out in_ s) (map (goes_out in_) out ++ map comes_alone (alone_among (s ∷ out) in_)))
+sides-some [] (s ∷ in_) = some-more s in_ ∙ sym (some-more (comes_alone s) (map comes_alone (alone_among [] in_)))
+
+-- ---- how transfers are shown
+
+module _ (element : Transfer → List ℕ) where
+  -- task by task
+  pub outs-flat : (in_ : List Side) (ts : List Task)
+      → flat_map element (map (goes_out in_) (flat_map outs ts)) ≡ flat_map (λ t. flat_map element (map (goes_out in_) (outs t))) ts
+  outs-flat in_ ts = ap (flat_map element) (map-flat (goes_out in_) outs ts) ∙ text-flat element (λ t. map (goes_out in_) (outs t)) ts
+
+  pub ins-flat : (out : List Side) (ts : List Task)
+      → flat_map element (map comes_alone (alone_among out (flat_map ins ts))) ≡ flat_map (λ t. flat_map element (map comes_alone (alone_among out (ins t)))) ts
+  ins-flat out ts =
+      ap (λ z. flat_map element (map comes_alone z)) (filter-flat (λ (s : Side). not (list_any (has_id s.1.id) out)) ins ts)
+      ∙ (ap (flat_map element) (map-flat comes_alone (λ t. alone_among out (ins t)) ts)
+      ∙ text-flat element (λ t. map comes_alone (alone_among out (ins t))) ts)
+
+  -- one whose transfer goes out isn't shown by itself
+  module _ (out : List Side) (name : Text) (r : Incoming) where
+    pub alone-none : list_any (has_id (in_id r)) out ≡ true → flat_map element (map comes_alone (alone_among out ((name, in_item r) ∷ []))) ≡ []
+    alone-none e = let k : list_any (has_id (in_item r).id) out ≡ true = ap (λ n. list_any (has_id n) out) (in-id r) ∙ e in rw k refl
+
+    pub alone-one : list_any (has_id (in_id r)) out ≡ false
+        → flat_map element (map comes_alone (alone_among out ((name, in_item r) ∷ []))) ≡ element (comes_alone (name, in_item r))
+    alone-one e =
+        let k : list_any (has_id (in_item r).id) out ≡ false = ap (λ n. list_any (has_id n) out) (in-id r) ∙ e in
+        rw k (append-nil (element (comes_alone (name, in_item r))))

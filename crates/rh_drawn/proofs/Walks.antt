@@ -1,6 +1,6 @@
 -- Lists that are shown or looked through, place by place.
 use Rattle.rh_drawn.proofs.Common.{◌≡◌, ℕ, ◌+◌, ◌<◌, ap, sym, ◌∙◌, List, [], ◌∷◌, ◌++◌, length, drop, get_or, Some, None, append_assoc, append-nil}
-use Rattle.rh_drawn.proofs.Common.{codes, slice_get, flat_map, drop_more, Text, shown_lines, shown-append, rest-none, rest-some, indented}
+use Rattle.rh_drawn.proofs.Common.{codes, slice_get, flat_map, drop_more, Text, map, shown_lines, shown-append, rest-none, rest-some}
 use Rattle.rh_figure.specs.Map.{shown_line}
 use Rattle.rh_map.proofs.SeamLemmas.{shown-one}
 use Rattle.std.proofs.lemmas.List.Folds.{flat_map-map}
@@ -22,10 +22,10 @@ module _ {A B : Type 0} (first : List A → B) (xs : List A) (i : ℕ) (so_far :
   pub walk-off : (y : B) → slice_get xs i ≡ None → first [] ≡ y → y ≡ first xs
   walk-off y e found = sym found ∙ (ap first (sym (rest-none xs i e)) ∙ so_far)
 
--- ---- lines behind two spaces
+-- ---- lines that are shown thing by thing
 
-pub changed-lines : (changes : List Text) → flat_map (λ line. shown_line (codes "  " ++ line) ++ codes "\n") changes ≡ shown_lines (indented changes)
-changed-lines changes = sym (flat_map-map (λ line. shown_line line ++ codes "\n") (λ line. codes "  " ++ line) changes)
+pub shown-each : {A : Type 0} (line : A → Text) (xs : List A) → flat_map (λ x. shown_line (line x) ++ codes "\n") xs ≡ shown_lines (map line xs)
+shown-each line xs = sym (flat_map-map (λ l. shown_line l ++ codes "\n") line xs)
 
 -- ---- what a pen is offered
 

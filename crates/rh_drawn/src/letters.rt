@@ -1,6 +1,6 @@
 //! Letterboxes: what each task holds, and what waits for it.
 
-ghost use Rattle.std.specs.Prelude.{◌≡◌, ◌≤◌, ◌<◌, ◌+◌, ◌∷◌, ◌++◌, [], List, filter, find, length, map, min, take};
+ghost use Rattle.std.specs.Prelude.{◌≡◌, ◌≤◌, ◌<◌, ◌+◌, ◌∷◌, ◌++◌, [], List, filter, find, flat_map, length, map, min, take};
 ghost use Rattle.std.specs.List.{list_any};
 ghost use Rattle.std.specs.Option.{option_map};
 ghost use Rattle.rh_defs.specs.Post.{most_messages};
@@ -9,17 +9,18 @@ ghost use Rattle.rh_drawn.specs.DrawnLetters.{entry_seen, has_letters_in};
 ghost use Rattle.rh_drawn.specs.Inner.LettersBehind.{letterboxes_in};
 ghost use Rattle.rh_drawn.specs.Parts.{letter_part};
 ghost use Rattle.rh_figure.specs.Figure.{letterboxes};
-ghost use Rattle.rh_figure.specs.Map.{letterbox_line};
 ghost use Rattle.rh_figure.specs.declared.limits.TheConstants.{MOST_LISTED};
 ghost use Rattle.rh_map.specs.Written.{shown_lines};
 ghost use Rattle.rh_map.specs.declared.letterboxes.MessageEntry.{MessageEntry};
 ghost use Rattle.rh_sight.specs.SightMessages.{is_held_by, waits_for};
 ghost use Rattle.rh_sight.specs.Steps.{IsStepOf, scene_at};
 
+use crate::artist::Artist;
+use crate::map_artist::MapArtist;
 use rh_defs::{Action, EventCode, Handle, MessageItem, Name, Ref};
 use rh_figure::limits::MOST_LISTED;
 use rh_lines::Pen;
-use rh_map::{MessageEntry, print_letterbox, put_line};
+use rh_map::{MessageEntry, put_line};
 use rh_sight::{Sight, Step, held_by};
 
 /// No message, in a place for one.
@@ -31,9 +32,9 @@ const NO_ENTRY: MessageEntry = MessageEntry {
 
 /// The first messages that wait for a task, and how many wait.
 #[derive(Drop)]
-pub struct Waits {
-    pub first: [MessageEntry; MOST_LISTED],
-    pub count: usize,
+struct Waits {
+    first: [MessageEntry; MOST_LISTED],
+    count: usize,
 }
 
 /// Writes the messages of each task that has some, below a heading.
@@ -48,7 +49,7 @@ pub fn print_letter_part<S: Sight, P: Pen>(sight: &S, step: &Step<'_>, pen: &mut
         return;
     }
     put_line(b"Messages", pen);
-    print_letterboxes(sight, step, pen);
+    show_letterboxes(sight, step, &MapArtist, pen);
 }
 
 /// Whether some task has a message.
@@ -66,32 +67,43 @@ pub fn has_letterboxes<S: Sight>(sight: &S, messages: &[MessageItem]) -> bool
 }
 
 /// Whether a message is for the task, be it held or waiting.
-pub fn has_letters(messages: &[MessageItem], handle: Handle) -> bool
+fn has_letters(messages: &[MessageItem], handle: Handle) -> bool
     ensures { result ≡ has_letters_in handle messages.now }
 {
     messages.iter().any(|message| message.to == handle)
 }
 
-/// Writes the messages of each task that has some.
-fn print_letterboxes<S: Sight, P: Pen>(sight: &S, step: &Step<'_>, pen: &mut P)
+/// Shows the messages of each task that has some.
+pub fn show_letterboxes<S: Sight, A: Artist, P: Pen>(
+    sight: &S,
+    step: &Step<'_>,
+    artist: &A,
+    pen: &mut P,
+)
     requires step { IsStepOf (S.desk sight.now) step.now }
     requires few { length step.now.messages.now ≤ most_messages }
     ensures { P.offered pen.new ≡ P.offered pen.old
-        ++ shown_lines (map letterbox_line (letterboxes (scene_at (S.desk sight.now) step.now))) }
+        ++ flat_map A.letterbox_text (letterboxes (scene_at (S.desk sight.now) step.now)) }
 {
     sight.spelled();
     let mut i = 0;
     'tasks: while let Some(task) = sight.task(i) {
-        print_letters(task.name, task.handle, step.messages, pen);
+        show_letters(task.name, task.handle, step.messages, artist, pen);
         i += 1;
     }
 }
 
-/// Writes what a task holds, and what waits for it, if a message is for it.
-fn print_letters<P: Pen>(name: &Name, handle: Handle, messages: &[MessageItem], pen: &mut P)
+/// Shows what a task holds, and what waits for it, if a message is for it.
+fn show_letters<A: Artist, P: Pen>(
+    name: &Name,
+    handle: Handle,
+    messages: &[MessageItem],
+    artist: &A,
+    pen: &mut P,
+)
     requires { length messages.now ≤ most_messages }
     ensures { P.offered pen.new ≡ P.offered pen.old
-        ++ shown_lines (map letterbox_line (letterboxes_in name.now handle messages.now)) }
+        ++ flat_map A.letterbox_text (letterboxes_in name.now handle messages.now) }
 {
     if !has_letters(messages, handle) {
         return;
@@ -99,11 +111,11 @@ fn print_letters<P: Pen>(name: &Name, handle: Handle, messages: &[MessageItem], 
     let held = held_entry(messages, handle);
     let waits = waits_of(messages, handle);
     let first = &waits.first[..waits.count.min(MOST_LISTED)];
-    print_letterbox(name, held, first, waits.count, pen);
+    artist.letterbox(name, held, first, waits.count, pen);
 }
 
 /// The message that a task holds.
-pub fn held_entry(messages: &[MessageItem], handle: Handle) -> Option<MessageEntry>
+fn held_entry(messages: &[MessageItem], handle: Handle) -> Option<MessageEntry>
     ensures { result ≡ option_map entry_seen (find (is_held_by handle) messages.now) }
 {
     match held_by(messages, handle) {
@@ -113,7 +125,7 @@ pub fn held_entry(messages: &[MessageItem], handle: Handle) -> Option<MessageEnt
 }
 
 /// The messages that wait for a task.
-pub fn waits_of(messages: &[MessageItem], handle: Handle) -> Waits
+fn waits_of(messages: &[MessageItem], handle: Handle) -> Waits
     requires { length messages.now ≤ most_messages }
     ensures count { result.count ≡ length (map entry_seen (filter (waits_for handle) messages.now)) }
     ensures first { take (min result.count MOST_LISTED) result.first

@@ -1,28 +1,28 @@
 //! Transfers: a line for each, with the record of either side.
 
-ghost use Rattle.std.specs.Prelude.{◌≡◌, ◌==◌, ◌||◌, ◌∷◌, ◌++◌, [], filter, find, if◌then◌else◌, length, map, not};
+ghost use Rattle.std.specs.Prelude.{◌≡◌, ◌==◌, ◌||◌, ◌∷◌, ◌++◌, [], find, flat_map, length, map, not};
 ghost use Rattle.std.specs.List.{list_any};
 ghost use Rattle.std.specs.Option.{option_map};
 ghost use Rattle.rh_defs.specs.Questions.{in_item as in_item_of, out_item as out_item_of};
 ghost use Rattle.rh_defs.specs.Records.{in_id as in_id_of, out_id as out_id_of};
 ghost use Rattle.rh_drawn.specs.Parts.{transfer_part};
 ghost use Rattle.rh_drawn.specs.DrawnSides.{ins_of, outs_of};
-ghost use Rattle.rh_drawn.specs.Inner.TransferWays.{comes_alone, goes_out};
-ghost use Rattle.rh_figure.specs.Figure.{has_id as has_id_of};
-ghost use Rattle.rh_figure.specs.Map.{transfer_line};
+ghost use Rattle.rh_drawn.specs.Inner.TransferWays.{alone_among, comes_alone, goes_out, ins_named, outs_named};
+ghost use Rattle.rh_figure.specs.Figure.{has_id as has_id_of, transfers_of};
 ghost use Rattle.rh_figure.specs.Scene.{Before, Marks, scene_of};
 ghost use Rattle.rh_figure.specs.Share.{Share};
 ghost use Rattle.rh_map.specs.Sides.{side_of};
 ghost use Rattle.rh_map.specs.Written.{shown_lines};
 
+use crate::artist::Artist;
+use crate::map_artist::MapArtist;
 use crate::usage::{in_id, out_id};
 use rh_defs::{Incoming, Name, Outgoing, RecordItem, Ref, State};
 use rh_lines::Pen;
-use rh_map::{Side, print_transfer, put_line};
+use rh_map::{Side, put_line};
 use rh_sight::{Sight, TaskSight};
 
 /// Writes the transfers that go out, each with the side that comes in, and those that only come in, below a heading.
-///
 pub fn print_transfer_part<S: Sight, P: Pen>(sight: &S, pen: &mut P)
     ensures { (s : Share) (b : Before) (m : Marks) → P.offered pen.new ≡ P.offered pen.old
         ++ shown_lines (transfer_part (scene_of (S.desk sight.now) s b m)) }
@@ -31,8 +31,16 @@ pub fn print_transfer_part<S: Sight, P: Pen>(sight: &S, pen: &mut P)
         return;
     }
     put_line(b"Transfers", pen);
-    print_outs(sight, pen);
-    print_ins(sight, pen);
+    show_transfers(sight, &MapArtist, pen);
+}
+
+/// Shows the transfers that go out, each with the side that comes in, and those that only come in.
+pub fn show_transfers<S: Sight, A: Artist, P: Pen>(sight: &S, artist: &A, pen: &mut P)
+    ensures { P.offered pen.new ≡ P.offered pen.old
+        ++ flat_map A.transfer_text (transfers_of (outs_of (S.desk sight.now)) (ins_of (S.desk sight.now))) }
+{
+    show_outs(sight, artist, pen);
+    show_ins(sight, artist, pen);
 }
 
 /// Whether some task has a record of a transfer.
@@ -57,33 +65,33 @@ fn has_records(task: &TaskSight<'_>) -> bool
     !task.sending.is_empty() || !task.taking.is_empty()
 }
 
-/// Writes the transfers that go out, task by task.
-fn print_outs<S: Sight, P: Pen>(sight: &S, pen: &mut P)
+/// Shows the transfers that go out, task by task.
+fn show_outs<S: Sight, A: Artist, P: Pen>(sight: &S, artist: &A, pen: &mut P)
     ensures { P.offered pen.new ≡ P.offered pen.old
-        ++ shown_lines (map transfer_line (map (goes_out (ins_of (S.desk sight.now))) (outs_of (S.desk sight.now)))) }
+        ++ flat_map A.transfer_text (map (goes_out (ins_of (S.desk sight.now))) (outs_of (S.desk sight.now))) }
 {
     let mut i = 0;
     'tasks: while let Some(task) = sight.task(i) {
-        print_task_outs(sight, &task, pen);
+        show_task_outs(sight, &task, artist, pen);
         i += 1;
     }
 }
 
-/// Writes the transfers that go out of a task.
-fn print_task_outs<S: Sight, P: Pen>(sight: &S, task: &TaskSight<'_>, pen: &mut P)
+/// Shows the transfers that go out of a task.
+fn show_task_outs<S: Sight, A: Artist, P: Pen>(sight: &S, task: &TaskSight<'_>, artist: &A, pen: &mut P)
     ensures { P.offered pen.new ≡ P.offered pen.old
-        ++ shown_lines (map transfer_line (map (goes_out (ins_of (S.desk sight.now)))
-        (map (λ r. (task.now.name.now, out_item_of r)) task.now.sending.now))) }
+        ++ flat_map A.transfer_text (map (goes_out (ins_of (S.desk sight.now)))
+        (outs_named task.now.name.now task.now.sending.now)) }
 {
     for record in task.sending {
-        print_out(sight, task.name, record, pen);
+        show_out(sight, task.name, record, artist, pen);
     }
 }
 
-/// Writes the transfer of a record of one that goes out.
-fn print_out<S: Sight, P: Pen>(sight: &S, name: &Name, record: &Outgoing, pen: &mut P)
+/// Shows the transfer of a record of one that goes out.
+fn show_out<S: Sight, A: Artist, P: Pen>(sight: &S, name: &Name, record: &Outgoing, artist: &A, pen: &mut P)
     ensures { P.offered pen.new ≡ P.offered pen.old
-        ++ shown_lines (transfer_line (goes_out (ins_of (S.desk sight.now)) (name.now, out_item_of record.now)) ∷ []) }
+        ++ A.transfer_text (goes_out (ins_of (S.desk sight.now)) (name.now, out_item_of record.now)) }
 {
     let id = out_id(record);
     let side = Some(Side {
@@ -91,11 +99,11 @@ fn print_out<S: Sight, P: Pen>(sight: &S, name: &Name, record: &Outgoing, pen: &
         record: out_item(record),
     });
     let other = in_side(sight, id);
-    print_transfer(id, &side, &other, pen);
+    artist.transfer(id, &side, &other, pen);
 }
 
 /// The first side with the id that comes in.
-pub fn in_side<S: Sight>(sight: &S, id: Ref) -> Option<Side<'_>>
+fn in_side<S: Sight>(sight: &S, id: Ref) -> Option<Side<'_>>
     ensures { option_map side_of result ≡ find (has_id_of id) (ins_of (S.desk sight.now)) }
 {
     let mut i = 0;
@@ -123,36 +131,35 @@ fn in_record(taking: &[Incoming], id: Ref) -> Option<RecordItem>
     None
 }
 
-/// Writes the transfers that only come in, task by task.
-fn print_ins<S: Sight, P: Pen>(sight: &S, pen: &mut P)
+/// Shows the transfers that only come in, task by task.
+fn show_ins<S: Sight, A: Artist, P: Pen>(sight: &S, artist: &A, pen: &mut P)
     ensures { P.offered pen.new ≡ P.offered pen.old
-        ++ shown_lines (map transfer_line (map comes_alone
-        (filter (λ s. not (list_any (has_id_of s.1.id) (outs_of (S.desk sight.now)))) (ins_of (S.desk sight.now))))) }
+        ++ flat_map A.transfer_text (map comes_alone
+        (alone_among (outs_of (S.desk sight.now)) (ins_of (S.desk sight.now)))) }
 {
     let mut i = 0;
     'tasks: while let Some(task) = sight.task(i) {
-        print_task_ins(sight, &task, pen);
+        show_task_ins(sight, &task, artist, pen);
         i += 1;
     }
 }
 
-/// Writes the transfers that only come in, of a task.
-fn print_task_ins<S: Sight, P: Pen>(sight: &S, task: &TaskSight<'_>, pen: &mut P)
+/// Shows the transfers that only come in, of a task.
+fn show_task_ins<S: Sight, A: Artist, P: Pen>(sight: &S, task: &TaskSight<'_>, artist: &A, pen: &mut P)
     ensures { P.offered pen.new ≡ P.offered pen.old
-        ++ shown_lines (map transfer_line (map comes_alone
-        (filter (λ s. not (list_any (has_id_of s.1.id) (outs_of (S.desk sight.now))))
-        (map (λ r. (task.now.name.now, in_item_of r)) task.now.taking.now)))) }
+        ++ flat_map A.transfer_text (map comes_alone
+        (alone_among (outs_of (S.desk sight.now)) (ins_named task.now.name.now task.now.taking.now))) }
 {
     for record in task.taking {
-        print_if_alone(sight, task.name, record, pen);
+        show_if_alone(sight, task.name, record, artist, pen);
     }
 }
 
-/// Writes the transfer of a record of one that comes in, if it only comes in.
-fn print_if_alone<S: Sight, P: Pen>(sight: &S, name: &Name, record: &Incoming, pen: &mut P)
+/// Shows the transfer of a record of one that comes in, if it only comes in.
+fn show_if_alone<S: Sight, A: Artist, P: Pen>(sight: &S, name: &Name, record: &Incoming, artist: &A, pen: &mut P)
     ensures { P.offered pen.new ≡ P.offered pen.old
-        ++ shown_lines (map transfer_line (if list_any (has_id_of (in_id_of record.now)) (outs_of (S.desk sight.now))
-        then [] else comes_alone (name.now, in_item_of record.now) ∷ [])) }
+        ++ flat_map A.transfer_text (map comes_alone
+        (alone_among (outs_of (S.desk sight.now)) ((name.now, in_item_of record.now) ∷ []))) }
 {
     let id = in_id(record);
     if has_out(sight, id) {
@@ -162,11 +169,11 @@ fn print_if_alone<S: Sight, P: Pen>(sight: &S, name: &Name, record: &Incoming, p
         name,
         record: in_item(record),
     });
-    print_transfer(id, &None, &side, pen);
+    artist.transfer(id, &None, &side, pen);
 }
 
 /// Whether a transfer with the id goes out.
-pub fn has_out<S: Sight>(sight: &S, id: Ref) -> bool
+fn has_out<S: Sight>(sight: &S, id: Ref) -> bool
     ensures { result ≡ list_any (has_id_of id) (outs_of (S.desk sight.now)) }
 {
     let mut i = 0;
@@ -187,7 +194,7 @@ fn has_id(sending: &[Outgoing], id: Ref) -> bool
 }
 
 /// A record of a transfer that goes out, as it is listed.
-pub fn out_item(record: &Outgoing) -> RecordItem
+fn out_item(record: &Outgoing) -> RecordItem
     ensures { result ≡ out_item_of record.now }
 {
     let (state, count) = match record {
@@ -203,7 +210,7 @@ pub fn out_item(record: &Outgoing) -> RecordItem
 }
 
 /// A record of a transfer that comes in, as it is listed.
-pub fn in_item(record: &Incoming) -> RecordItem
+fn in_item(record: &Incoming) -> RecordItem
     ensures { result ≡ in_item_of record.now }
 {
     let (state, count) = match record {

@@ -4,7 +4,7 @@ use Rattle.rh_painted.proofs.Common.{concat, flat_map, Desk, with_queue, Text, N
 use Rattle.rh_painted.proofs.Common.{arrow_of, arrows_seen}
 use Rattle.rh_sheet.specs.declared.sizes.TheConstants.{CHART_EDGE, CHART_WIDTH}
 use Rattle.rh_sheet.specs.Chart.{Arrow, chart_body, chart_foot, chart_of}
-use Rattle.rh_painted.proofs.TableLemmas.{is_some, some-more}
+use Rattle.rh_drawn.proofs.UnderLemmas.{is_some, some-more}
 
 -- nine parts, one behind the other
 pub nine-parts : (a b c d e f g h i : Text)

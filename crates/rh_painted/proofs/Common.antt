@@ -78,7 +78,6 @@ pub use Rattle.rh_painted.specs.Inner.Figures.{IsSlotPlan}
 pub use Rattle.rh_painted.specs.Inner.Notes.{code_among}
 pub use Rattle.rh_painted.specs.PaintedOwners.{who_seen}
 pub use Rattle.rh_painted.specs.PaintedProgress.{PaintStand}
-pub use Rattle.rh_painted.specs.Inner.Transfers.{in_rows, ins_named, out_rows, outs_named}
 pub use Rattle.rh_painted.specs.PaintedWalks.{PaintedLine, TookPaintedLine, walk_in}
 pub use Rattle.rh_painted.specs.Inner.PaintedSteps.{happened_at}
 pub use Rattle.rh_painted.specs.Ways.{arrow_of, arrows_seen}

@@ -4,5 +4,4 @@ pub mod Charts
 pub mod Figures
 pub mod Notes
 pub mod PaintedSteps
-pub mod Transfers
 pub mod WaySteps

@@ -1,5 +1,7 @@
 use Rattle.rh_painted.proofs.Common.{◌≡◌, true, length, ap₂, sym, ◌∙◌, ◌==◌, ◌||◌, not, letterboxes, transfers, scene_at, ins_of, outs_of}
-use Rattle.rh_painted.proofs.TableLemmas.{boxes-told, is_some, sides-some}
+use Rattle.rh_drawn.proofs.TransferLemmas.{sides-some}
+use Rattle.rh_drawn.proofs.PostLemmas.{boxes-told}
+use Rattle.rh_drawn.proofs.UnderLemmas.{is_some}
 use Rattle.rh_painted.proofs.aside.has_aside.Goals as goal
 
 pub returns-then-has_letterboxes : goal.returns-then-has_letterboxes

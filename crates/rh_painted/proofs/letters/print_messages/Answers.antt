@@ -1,7 +1,9 @@
 use Rattle.rh_painted.proofs.Common.{◌≡◌, true, false, sym, ◌∙◌, append_assoc, letterboxes, letterbox_row, scene_at}
 use Rattle.rh_painted.proofs.Common.{offered_as, offered_none}
 use Rattle.rh_sheet.specs.Tables.{messages_heading}
-use Rattle.rh_painted.proofs.TableLemmas.{boxes-told, is_some, rows-none, rows-some}
+use Rattle.rh_painted.proofs.TableLemmas.{rows-none, rows-some}
+use Rattle.rh_drawn.proofs.PostLemmas.{boxes-told}
+use Rattle.rh_drawn.proofs.UnderLemmas.{is_some}
 use Rattle.rh_painted.proofs.letters.print_messages.Goals as goal
 
 pub returns-then-not-has_letterboxes : goal.returns-then-not-has_letterboxes
@@ -19,4 +21,4 @@ returns g c =
     let some : is_some bs ≡ true =
     boxes-told c.spelled.ensures ms c.requires.step.messages ∙ (sym c.has_letterboxes.ensures ∙ c.if-not-has_letterboxes.false) in
     offered_as _ (sym (rows-some messages_heading letterbox_row bs some))
-    (simp (c.put.ensures, c.put-2.ensures, c.print_letterboxes.ensures, c.put-3.ensures, append_assoc))
+    (simp (c.put.ensures, c.put-2.ensures, c.show_letterboxes.ensures, c.put-3.ensures, append_assoc))

@@ -1,7 +1,9 @@
 use Rattle.rh_painted.proofs.Common.{◌≡◌, true, sym, ◌∙◌, append_assoc, transfer_row, ins_of, outs_of, offered_as}
 use Rattle.rh_figure.specs.Figure.{transfers_of}
 use Rattle.rh_sheet.specs.Tables.{transfers_heading}
-use Rattle.rh_painted.proofs.TableLemmas.{is_some, rows-both, rows-some, sides-some}
+use Rattle.rh_painted.proofs.TableLemmas.{rows-some}
+use Rattle.rh_drawn.proofs.TransferLemmas.{sides-some}
+use Rattle.rh_drawn.proofs.UnderLemmas.{is_some}
 use Rattle.rh_painted.proofs.transfers.print_transfers.Goals as goal
 
 pub returns : goal.returns
@@ -10,4 +12,4 @@ returns g c =
     let ins = ins_of (g.S.Sight.desk c.args.sight.now) in
     let some : is_some (transfers_of outs ins) ≡ true = sym (sides-some outs ins) ∙ (sym c.has_transfers.ensures ∙ c.if-not-has_transfers.false) in
     offered_as _ (sym (rows-some transfers_heading transfer_row (transfers_of outs ins) some))
-    (simp (c.put.ensures, c.put-2.ensures, c.print_outs.ensures, c.print_ins.ensures, c.put-3.ensures, rows-both outs ins, append_assoc))
+    (simp (c.put.ensures, c.put-2.ensures, c.show_transfers.ensures, c.put-3.ensures, append_assoc))

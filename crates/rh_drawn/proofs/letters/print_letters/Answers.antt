@@ -1,6 +1,0 @@
-use Rattle.std.proofs.Common.{arith}
-use Rattle.rh_drawn.proofs.PostLemmas.{waits-few}
-use Rattle.rh_drawn.proofs.letters.print_letters.Goals as goal
-
-pub print_letterbox-requires-clause-few : goal.print_letterbox-requires-clause-few
-print_letterbox-requires-clause-few g c = omega (arith, c.requires, c.waits_of-waits.ensures.count, waits-few c.args.handle c.args.messages.now)
