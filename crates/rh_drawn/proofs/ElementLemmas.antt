@@ -1,8 +1,7 @@
 -- Elements that are written one after the other: for the parts of a list those that each part has.
 use Rattle.rh_drawn.proofs.Common.{◌≡◌, ℕ, ◌+◌, ◌<◌, ap, ◌∙◌, List, [], ◌∷◌, ◌++◌, length, drop, append_assoc, append-nil, arith, refl, ◌≤◌, get_or}
-use Rattle.rh_drawn.proofs.Common.{slice_get, Some, None, flat_map, flat_map-append, freed_text, change_item, rest-some}
-use Rattle.rh_figure.specs.Changes.{freed_line}
-use Rattle.rh_sight.proofs.Places.{rest-none}
+use Rattle.rh_drawn.proofs.Common.{slice_get, Some, None, flat_map, flat_map-append, rest-some, rest-none, Text}
+use Rattle.rh_figure.specs.Changes.{freed_line, freed_text}
 use Rattle.rh_drawn.proofs.TextWalks.{text-at, text-end}
 
 -- ---- the elements of parts
@@ -21,9 +20,9 @@ module _ {B : Type 0} (element : B → List ℕ) where
   parts-one x = append-nil (element x)
 
 -- that of the pages that were given back, where there are some
-pub freed-one : (numbers : List ℕ) → 0 < length numbers → flat_map change_item (freed_text numbers) ≡ change_item (freed_line numbers)
-freed-one [] some = absurd (omega (arith, some))
-freed-one (n ∷ ns) some = parts-one change_item (freed_line (n ∷ ns))
+pub freed-one : (element : Text → List ℕ) (numbers : List ℕ) → 0 < length numbers → flat_map element (freed_text numbers) ≡ element (freed_line numbers)
+freed-one element [] some = absurd (omega (arith, some))
+freed-one element (n ∷ ns) some = parts-one element (freed_line (n ∷ ns))
 
 -- ---- the elements of a list's members, from a place on, and of what stands behind the list
 

@@ -1,10 +1,11 @@
 -- The parts of a figure, one after the other.
 use Rattle.rh_drawn.proofs.Common.{◌≡◌, ap, ◌∙◌, List, [], ◌∷◌, ◌++◌, map, append_assoc, codes, range_with_len, Panel, figure, owner_of, slot_panel}
-use Rattle.rh_drawn.proofs.Common.{Text, page_mark, Scene, area_part, slot_panels, slot_part}
+use Rattle.rh_drawn.proofs.Common.{Text, page_mark, Scene, area_part, flat_map, panel_part, shown_lines, slot_panels, slot_part, sym}
 use Rattle.std.proofs.lemmas.List.FromFn.{length-map-range_with_len}
 use Rattle.std.proofs.lemmas.List.Folds.{flat_map-map}
 use Rattle.rh_defs.specs.Desk.{free_pages}
-use Rattle.rh_figure.specs.Map.{figure_lines, marked_heading, panel_lines, pool_heading, pool_line}
+use Rattle.rh_figure.specs.Map.{figure_lines, marked_heading, panel_lines, pool_heading, pool_line, shown_line}
+use Rattle.rh_drawn.proofs.TextWalks.{text-flat}
 use Rattle.rh_figure.specs.Rows.{marks_rows, pool_rows}
 use Rattle.rh_drawn.proofs.MarkLemmas.{map-twice}
 use Rattle.rh_drawn.specs.Parts.{letter_part, module_part, pool_part, transfer_part}
@@ -32,6 +33,10 @@ figure-parts x =
     (ap (λ z. ((((((rows ++ area_part x) ++ z) ++ module_part x) ++ letter_part x) ++ transfer_part x) ++ [] ∷ []))
     (flat_map-map (λ (p : Panel). panel_lines (marked_heading (slot_panels x) (codes "Slot ") p) p) (slot_panel x) x.desk.tasks)
     ∙ six rows (area_part x) (slot_part x) (module_part x) (letter_part x) (transfer_part x) ([] ∷ []))
+
+-- areas that are pages alone, panel by panel
+pub panels-shown : (panels : List Panel) → flat_map (λ (p : Panel). shown_lines (panel_lines p.name p)) panels ≡ shown_lines (panel_part panels)
+panels-shown panels = sym (text-flat (λ line. shown_line line ++ codes "\n") (λ (p : Panel). panel_lines p.name p) panels)
 
 -- ---- the pool
 

@@ -1,21 +1,26 @@
 //! What shows the things of a step: as lines of a map, or as elements of a sheet.
 
-ghost use Rattle.std.specs.Prelude.{◌≡◌, ◌≤◌, ◌++◌, ℕ, List, length, min};
+ghost use Rattle.std.specs.Prelude.{◌≡◌, ◌≤◌, ◌<◌, ◌++◌, ℕ, List, length, min};
 ghost use Rattle.std.specs.Option.{option_map};
 ghost use Rattle.rh_defs.specs.Post.{most_messages};
-ghost use Rattle.rh_figure.specs.Figure.{Letterbox, Transfer};
+ghost use Rattle.rh_defs.specs.declared.sizes.TheConstants.{FIXED_AREAS, MAX_PAGES};
+ghost use Rattle.rh_figure.specs.Figure.{Letterbox, Panel, Transfer, area_panel, fixed_note, listed_pages, made_note};
 ghost use Rattle.rh_figure.specs.declared.limits.TheConstants.{MOST_LISTED};
+ghost use Rattle.rh_map.specs.MapAreas.{scrap_note_of};
 ghost use Rattle.rh_map.specs.MapMessages.{mapped_letterbox};
 ghost use Rattle.rh_map.specs.Sides.{side_of};
 
 use rh_defs::{Name, Ref};
 use rh_lines::{Pen, Row};
-use rh_map::{MessageEntry, Side};
+use rh_map::{MessageEntry, ScrapFile, Side};
 
 /// What shows the things of a step as they are walked.
 pub trait Artist {
     // How something that a command has changed is shown.
     ghost change_text: { List ℕ → List ℕ };
+
+    // How an area that is pages alone is shown.
+    ghost area_text: { Panel → List ℕ };
 
     // How the messages of a task are shown.
     ghost letterbox_text: { Letterbox → List ℕ };
@@ -27,6 +32,20 @@ pub trait Artist {
     fn change<P: Pen>(&self, change: &Row, pen: &mut P)
         requires { length change.now ≤ 200 }
         ensures { P.offered pen.new ≡ P.offered pen.old ++ change_text change.now };
+
+    /// Shows one of areas 0 to 5, which has these pages, and the scrap file where it lies in that area.
+    fn fixed_area<P: Pen>(&self, number: u32, pages: &[u16], scrap: Option<ScrapFile>, pen: &mut P)
+        requires number { number < FIXED_AREAS }
+        requires few { length pages.now ≤ MAX_PAGES }
+        ensures { P.offered pen.new ≡ P.offered pen.old ++ area_text (area_panel number
+            (fixed_note (length pages.now) (listed_pages (length pages.now) pages.now) (scrap_note_of scrap))) };
+
+    /// Shows a made area, which has these pages and may have so many.
+    fn made_area<P: Pen>(&self, number: u32, most: u32, pages: &[u16], pen: &mut P)
+        requires number { 5 < number }
+        requires few { length pages.now ≤ MAX_PAGES }
+        ensures { P.offered pen.new ≡ P.offered pen.old ++ area_text (area_panel number
+            (made_note (length pages.now) most (listed_pages (length pages.now) pages.now))) };
 
     /// Shows what the task with the name holds, and the first of `count` messages that wait for it.
     fn letterbox<P: Pen>(
@@ -51,8 +70,8 @@ pub trait Artist {
         pen: &mut P,
     )
         ensures { P.offered pen.new ≡ P.offered pen.old ++ transfer_text (record {
-            id = id;
-            goes_out = option_map side_of goes_out.now;
-            comes_in = option_map side_of comes_in.now;
+          id = id;
+          goes_out = option_map side_of goes_out.now;
+          comes_in = option_map side_of comes_in.now;
         }) };
 }

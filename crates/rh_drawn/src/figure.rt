@@ -7,7 +7,7 @@ ghost use Rattle.rh_map.specs.Written.{shown_lines};
 ghost use Rattle.rh_sight.specs.Steps.{IsStepOf, scene_at};
 ghost use Rattle.rh_defs.specs.Post.{most_messages};
 
-use crate::areas::print_area_part;
+use crate::areas::show_areas;
 use crate::changes::show_changes;
 use crate::letters::print_letter_part;
 use crate::lists::Lists;
@@ -30,7 +30,7 @@ pub fn print_figure<S: Sight, P: Pen>(sight: &S, step: &Step<'_>, lists: &mut Li
     show_changes(sight, step, lists, &MapArtist, pen);
     put_line(b"", pen);
     print_pool_part(sight, step, lists, pen);
-    print_area_part(sight, step, pen);
+    show_areas(sight, step, &MapArtist, pen);
     print_slot_part(sight, step, lists, pen);
     print_module_part(sight, step, lists, pen);
     print_letter_part(sight, step, pen);

@@ -28,7 +28,7 @@ mod transfers;
 mod usage;
 mod who;
 
-pub use areas::scrap_in;
+pub use areas::show_areas;
 pub use artist::Artist;
 pub use block_changes::{Slid, find_slid};
 pub use cards::{front_length, shown_count};

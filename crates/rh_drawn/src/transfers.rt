@@ -78,7 +78,12 @@ fn show_outs<S: Sight, A: Artist, P: Pen>(sight: &S, artist: &A, pen: &mut P)
 }
 
 /// Shows the transfers that go out of a task.
-fn show_task_outs<S: Sight, A: Artist, P: Pen>(sight: &S, task: &TaskSight<'_>, artist: &A, pen: &mut P)
+fn show_task_outs<S: Sight, A: Artist, P: Pen>(
+    sight: &S,
+    task: &TaskSight<'_>,
+    artist: &A,
+    pen: &mut P,
+)
     ensures { P.offered pen.new ≡ P.offered pen.old
         ++ flat_map A.transfer_text (map (goes_out (ins_of (S.desk sight.now)))
         (outs_named task.now.name.now task.now.sending.now)) }
@@ -89,7 +94,13 @@ fn show_task_outs<S: Sight, A: Artist, P: Pen>(sight: &S, task: &TaskSight<'_>, 
 }
 
 /// Shows the transfer of a record of one that goes out.
-fn show_out<S: Sight, A: Artist, P: Pen>(sight: &S, name: &Name, record: &Outgoing, artist: &A, pen: &mut P)
+fn show_out<S: Sight, A: Artist, P: Pen>(
+    sight: &S,
+    name: &Name,
+    record: &Outgoing,
+    artist: &A,
+    pen: &mut P,
+)
     ensures { P.offered pen.new ≡ P.offered pen.old
         ++ A.transfer_text (goes_out (ins_of (S.desk sight.now)) (name.now, out_item_of record.now)) }
 {
@@ -145,7 +156,12 @@ fn show_ins<S: Sight, A: Artist, P: Pen>(sight: &S, artist: &A, pen: &mut P)
 }
 
 /// Shows the transfers that only come in, of a task.
-fn show_task_ins<S: Sight, A: Artist, P: Pen>(sight: &S, task: &TaskSight<'_>, artist: &A, pen: &mut P)
+fn show_task_ins<S: Sight, A: Artist, P: Pen>(
+    sight: &S,
+    task: &TaskSight<'_>,
+    artist: &A,
+    pen: &mut P,
+)
     ensures { P.offered pen.new ≡ P.offered pen.old
         ++ flat_map A.transfer_text (map comes_alone
         (alone_among (outs_of (S.desk sight.now)) (ins_named task.now.name.now task.now.taking.now))) }
@@ -156,7 +172,13 @@ fn show_task_ins<S: Sight, A: Artist, P: Pen>(sight: &S, task: &TaskSight<'_>, a
 }
 
 /// Shows the transfer of a record of one that comes in, if it only comes in.
-fn show_if_alone<S: Sight, A: Artist, P: Pen>(sight: &S, name: &Name, record: &Incoming, artist: &A, pen: &mut P)
+fn show_if_alone<S: Sight, A: Artist, P: Pen>(
+    sight: &S,
+    name: &Name,
+    record: &Incoming,
+    artist: &A,
+    pen: &mut P,
+)
     ensures { P.offered pen.new ≡ P.offered pen.old
         ++ flat_map A.transfer_text (map comes_alone
         (alone_among (outs_of (S.desk sight.now)) ((name.now, in_item_of record.now) ∷ []))) }

@@ -5,13 +5,13 @@ ghost use Rattle.rh_sheet.specs.SheetSteps.{figure_text, memory_text};
 ghost use Rattle.rh_sight.specs.Steps.{IsStepOf, scene_at};
 ghost use Rattle.rh_defs.specs.Post.{most_messages};
 
-use crate::areas::print_area_headings;
 use crate::aside::print_aside;
 use crate::modules::print_module_part;
 use crate::notes::Notes;
 use crate::pool::print_pool_figure;
+use crate::sheet_artist::SheetArtist;
 use crate::slots::print_slots;
-use rh_drawn::Lists;
+use rh_drawn::{Lists, show_areas};
 use rh_lines::Pen;
 use rh_sight::{Sight, Step};
 
@@ -40,7 +40,7 @@ fn print_memory<S: Sight, P: Pen>(sight: &S, step: &Step<'_>, lists: &mut Lists,
 {
     pen.put(b"<div class=\"memory\">\n");
     print_pool_figure(sight, step, pen);
-    print_area_headings(sight, step, pen);
+    show_areas(sight, step, &SheetArtist, pen);
     print_slots(sight, step, lists, pen);
     print_module_part(sight, step, lists, pen);
     pen.put(b"</div>\n");

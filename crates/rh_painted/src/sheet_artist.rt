@@ -1,13 +1,15 @@
 //! What shows the things of a step as elements of a sheet.
 
 ghost use Rattle.rh_sheet.specs.Markup.{change_item};
+ghost use Rattle.rh_sheet.specs.SheetSteps.{area_heading};
 ghost use Rattle.rh_sheet.specs.Tables.{letterbox_row, transfer_row};
 
+use crate::areas::print_area_heading;
 use rh_defs::{Name, Ref};
 use rh_draw::{print_change, print_letterbox_row, print_transfer_row};
 use rh_drawn::Artist;
 use rh_lines::{Pen, Row};
-use rh_map::{MessageEntry, Side};
+use rh_map::{MessageEntry, ScrapFile, Side, fixed_area_note, made_area_note};
 
 /// Shows each thing as an element of a sheet.
 pub struct SheetArtist;
@@ -15,12 +17,28 @@ pub struct SheetArtist;
 impl Artist for SheetArtist {
     ghost change_text = { change_item };
 
+    ghost area_text = { area_heading };
+
     ghost letterbox_text = { letterbox_row };
 
     ghost transfer_text = { transfer_row };
 
     fn change<P: Pen>(&self, change: &Row, pen: &mut P) {
         print_change(change.as_slice(), pen);
+    }
+
+    fn fixed_area<P: Pen>(
+        &self,
+        number: u32,
+        pages: &[u16],
+        scrap: Option<ScrapFile>,
+        pen: &mut P,
+    ) {
+        print_area_heading(number, &fixed_area_note(pages, scrap), pen);
+    }
+
+    fn made_area<P: Pen>(&self, number: u32, most: u32, pages: &[u16], pen: &mut P) {
+        print_area_heading(number, &made_area_note(most, pages), pen);
     }
 
     fn letterbox<P: Pen>(

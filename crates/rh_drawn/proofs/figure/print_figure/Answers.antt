@@ -1,8 +1,9 @@
 use Rattle.rh_drawn.proofs.Common.{[], ◌∷◌, ◌++◌, codes, ap, sym, refl, shown_lines, scene_at, area_part, slot_part}
 use Rattle.rh_figure.specs.Changes.{changes}
+use Rattle.rh_figure.specs.Figure.{area_panels}
 use Rattle.rh_drawn.specs.Parts.{letter_part, module_part, pool_part, transfer_part}
 use Rattle.rh_drawn.specs.Inner.PartsBehind.{change_part}
-use Rattle.rh_drawn.proofs.FigureLemmas.{behind_areas, behind_changes, behind_module, figure-parts}
+use Rattle.rh_drawn.proofs.FigureLemmas.{behind_areas, behind_changes, behind_module, figure-parts, panels-shown}
 use Rattle.rh_drawn.proofs.Walks.{lines_then, offered_line, offered_as, shown-each}
 use Rattle.rh_drawn.proofs.figure.print_figure.Goals as goal
 
@@ -13,7 +14,7 @@ returns g c =
     (lines_then _ (change_part x) (behind_changes x) (offered_as _ (shown-each (λ line. codes "  " ++ line) (changes x)) c.show_changes.ensures)
     (lines_then _ ([] ∷ []) (pool_part x ++ (area_part x ++ behind_areas x)) (offered_line {x = []} _ refl c.put_line.ensures)
     (lines_then _ (pool_part x) (area_part x ++ behind_areas x) c.print_pool_part.ensures
-    (lines_then _ (area_part x) (behind_areas x) c.print_area_part.ensures
+    (lines_then _ (area_part x) (behind_areas x) (offered_as _ (panels-shown (area_panels x)) c.show_areas.ensures)
     (lines_then _ (slot_part x) (module_part x ++ behind_module x) c.print_slot_part.ensures
     (lines_then _ (module_part x) (behind_module x) c.print_module_part.ensures
     (lines_then _ (letter_part x) (transfer_part x ++ [] ∷ []) c.print_letter_part.ensures

@@ -7,6 +7,6 @@ returns-in-Some g c =
     let sent = c.show_sent.ensures x.share x.before x.marks in
     simp (c.in-Some.is, flat_map-append g.A.Artist.change_text, c.show_returned.ensures, c.show_taken.ensures, sent, append_assoc)
 
-pub returns-in-None : goal.returns-in-None
-returns-in-None g c =
-    simp (c.in-None.is, flat_map-append g.A.Artist.change_text, c.show_returned.ensures, c.show_taken.ensures, append_assoc, append-nil)
+pub returns-in_default : goal.returns-in_default
+returns-in_default g c =
+    simp (c.in_default.is, flat_map-append g.A.Artist.change_text, c.show_returned.ensures, c.show_taken.ensures, append_assoc, append-nil)
