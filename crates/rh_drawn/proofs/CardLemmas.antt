@@ -1,13 +1,15 @@
 -- Bands of cards: which cards of a list are shown.
 use Rattle.rh_drawn.proofs.Common.{◌≡◌, ◌⊎◌, inl, inr, add-one, append-nil, append_assoc, ℕ, zero, suc, ◌+◌, ◌-◌, ◌<◌, ◌≤◌, Bool, true, false, refl, ap, sym}
 use Rattle.rh_drawn.proofs.Common.{subst, ◌∙◌, arith, List, [], ◌∷◌, ◌++◌, length, take, drop, get_or, Some, None, min, filter, if◌then◌else◌, nat_le}
-use Rattle.rh_drawn.proofs.Common.{slice_get, nat_tests, drop_all, drop_more, map-append, take_all, slice_get-get_or, slice_get_within, BlockItem, Task}
+use Rattle.rh_drawn.proofs.Common.{slice_get, nat_tests, drop_all, drop_more, take_all, slice_get-get_or, slice_get_within, BlockItem, Task}
 use Rattle.rh_drawn.proofs.Common.{block_items, flex_start, Card, flex_cards, more_card, shown_cards, card_line, is_fresh_flex, Scene, card_lines}
-use Rattle.rh_drawn.proofs.Common.{cards_behind, count_shown, place_behind}
+use Rattle.rh_drawn.proofs.Common.{cards_behind, codes, count_shown, length-take, place_behind, rest-some, shown_lines}
 use Rattle.rh_defs.specs.Questions.{block_items_from}
 use Rattle.rh_defs.specs.Slot.{Flex, weight}
 use Rattle.rh_figure.specs.Cards.{flex_card, flex_cards_from, use_of_block}
-use Rattle.rh_drawn.specs.DrawnCards.{place_from}
+use Rattle.rh_figure.specs.Map.{shown_line}
+use Rattle.rh_drawn.specs.DrawnCards.{cards_text}
+use Rattle.rh_drawn.specs.Inner.CardsBehind.{place_from}
 
 -- ---- how many are shown
 
@@ -176,8 +178,39 @@ shown-split cards = go (le-or (length cards))
           is = shown-parts cards many ∙ ap (λ n. take n cards ++ cards_behind cards) (sym (some-count (length cards) many));
         }
 
-pub cards-append : (xs ys : List Card) → card_lines (xs ++ ys) ≡ card_lines xs ++ card_lines ys
-cards-append xs ys = map-append card_line xs ys
+-- ---- what is shown of cards
+
+module _ (shown : ℕ × Card → List ℕ) where
+  -- the card at a place, and those behind it
+  pub cards-some : (cards : List Card) (k : ℕ) (c : Card) → slice_get cards k ≡ Some c
+      → cards_text shown k (drop k cards) ≡ shown (k, c) ++ cards_text shown (k + 1) (drop (k + 1) cards)
+  cards-some cards k c e = ap (cards_text shown k) (rest-some cards k c e)
+
+  -- behind the last
+  pub cards-end : (cards : List Card) (k : ℕ) → length cards ≤ k → cards_text shown k (drop k cards) ≡ []
+  cards-end cards k past = ap (cards_text shown k) (drop_all k cards past)
+
+  -- cards in two parts
+  cards-append : (k : ℕ) (xs ys : List Card) → cards_text shown k (xs ++ ys) ≡ cards_text shown k xs ++ cards_text shown (k + length xs) ys
+  cards-append k [] ys = let e : k ≡ k + 0 = omega arith in ap (λ n. cards_text shown n ys) e
+  cards-append k (x ∷ xs) ys =
+      let e : k + 1 + length xs ≡ k + length (x ∷ xs) = omega arith in
+      ap (λ z. shown (k, x) ++ z) (cards-append (k + 1) xs ys ∙ ap (λ n. cards_text shown (k + 1) xs ++ cards_text shown n ys) e)
+      ∙ sym (append_assoc (shown (k, x)) (cards_text shown (k + 1) xs) (cards_text shown (k + length (x ∷ xs)) ys))
+
+  -- the first 22, and what stands behind them
+  pub shown-behind : (cards : List Card) → 24 < length cards
+      → cards_text shown 0 (take 22 cards ++ cards_behind cards) ≡ cards_text shown 0 (take 22 cards) ++ cards_text shown 22 (cards_behind cards)
+  shown-behind cards many =
+      let long : 0 + length (take 22 cards) ≡ 22 = omega (arith, length-take 22 cards) in
+      cards-append 0 (take 22 cards) (cards_behind cards)
+      ∙ ap (λ n. cards_text shown 0 (take 22 cards) ++ cards_text shown n (cards_behind cards)) long
+
+-- cards as lines of a map
+pub cards-lined : (k : ℕ) (cards : List Card)
+    → cards_text (λ (placed : ℕ × Card). shown_line (card_line placed.1) ++ codes "\n") k cards ≡ shown_lines (card_lines cards)
+cards-lined k [] = refl
+cards-lined k (c ∷ cards) = ap (λ z. (shown_line (card_line c) ++ codes "\n") ++ z) (cards-lined (k + 1) cards)
 
 -- ---- a flex block as it is listed
 

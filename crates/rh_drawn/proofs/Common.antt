@@ -57,14 +57,16 @@ pub use Rattle.rh_sight.specs.Inner.Holdings.{made_holding, slot_holding}
 pub use Rattle.rh_sight.specs.SightPages.{share_in}
 pub use Rattle.rh_sight.specs.Seen.{SeesBlock, IsTaskSeen, heap_seen, heap_start_of}
 pub use Rattle.rh_sight.specs.Steps.{scene_at}
-pub use Rattle.rh_drawn.specs.Bands.{IsSurvey, band_cards, is_fresh_card, with_items}
-pub use Rattle.rh_drawn.specs.DrawnCards.{card_lines, count_shown, place_behind}
-pub use Rattle.rh_drawn.specs.Inner.CardsBehind.{cards_behind}
+pub use Rattle.rh_drawn.specs.Bands.{band_cards}
+pub use Rattle.rh_drawn.specs.Inner.Surveys.{IsSurvey, is_fresh_card, with_items}
+pub use Rattle.rh_drawn.specs.DrawnCards.{count_shown}
+pub use Rattle.rh_drawn.specs.Inner.PartsBehind.{card_lines, area_part, panel_part}
+pub use Rattle.rh_drawn.specs.Inner.CardsBehind.{place_behind, cards_behind}
 pub use Rattle.rh_drawn.specs.Deeds.{reply_to}
 pub use Rattle.rh_drawn.specs.DrawnLetters.{has_letters_in}
 pub use Rattle.rh_drawn.specs.Inner.LettersBehind.{letterboxes_in}
 pub use Rattle.rh_drawn.specs.Inner.Marked.{made_pages, marked, marked_all, slot_pages_from}
-pub use Rattle.rh_drawn.specs.Parts.{area_part, indented, panel_part, slot_panels, slot_part}
+pub use Rattle.rh_drawn.specs.Parts.{slot_panels, slot_part}
 pub use Rattle.rh_drawn.specs.Inner.ReturnLines.{return_lines}
 pub use Rattle.rh_drawn.specs.DrawnPlaces.{Drew, TookLine, place_in}
 pub use Rattle.rh_drawn.specs.DrawnReplies.{Excerpts}

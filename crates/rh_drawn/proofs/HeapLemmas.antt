@@ -25,9 +25,9 @@ use Rattle.rh_sight.specs.Inner.WalkItems.{IsInArea}
 use Rattle.rh_sight.proofs.Heaps.{Counted, told}
 use Rattle.rh_sight.proofs.PieceWalks.{item-in-area}
 use Rattle.rh_sight.proofs.SegmentWalks.{length-items, take-items}
-use Rattle.rh_drawn.specs.Bands.{IsBandFor, IsBandOf, band_card, card_for, card_of_task, is_fresh_at, is_fresh_block_of}
+use Rattle.rh_drawn.specs.Bands.{IsBandFor, IsBandOf, band_card, card_for, card_of_task}
+use Rattle.rh_drawn.specs.Inner.Surveys.{is_fresh_at, is_fresh_block_of, is_fresh_or_posted, is_fresh_used}
 use Rattle.rh_drawn.specs.Inner.BandItems.{HasSegment, IsItemOf}
-use Rattle.rh_drawn.specs.Bands.{is_fresh_or_posted, is_fresh_used}
 use Rattle.rh_drawn.specs.declared.heap_cards.Band.{Band}
 use Rattle.rh_drawn.specs.declared.heap_cards.Survey.{Survey}
 use Rattle.rh_drawn.proofs.CardLemmas.{Alike, get-front}

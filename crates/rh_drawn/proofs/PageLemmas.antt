@@ -1,5 +1,5 @@
 -- Owners of pages, and the pages that they have.
-use Rattle.rh_drawn.proofs.Common.{◌≡◌, ℕ, zero, suc, ◌+◌, ◌<◌, ◌≤◌, ◌++◌, true, arith, refl, ap, sym, subst, ◌∙◌, List, [], ◌∷◌, length, drop}
+use Rattle.rh_drawn.proofs.Common.{◌≡◌, ℕ, zero, suc, ◌+◌, ◌<◌, ◌≤◌, true, arith, refl, ap, sym, subst, ◌∙◌, List, [], ◌∷◌, length, drop}
 use Rattle.rh_drawn.proofs.Common.{Some, IfSome, slice_get, slice_index, if◌then◌else◌, ◌==◌, nat_lt, enumerate_from, option_map, nat_tests}
 use Rattle.rh_drawn.proofs.Common.{drop_more, Desk, Made, Task, module_pages, task_pages, IsDesk, Rise, taken_line, Scene, AreaOf}
 use Rattle.rh_drawn.proofs.Common.{IsShared, Owner, SlotOf, Text, append-nil, at-some, count_of, flat_map, share_in}

@@ -1,7 +1,7 @@
 -- The list of all messages, and the post that it lists, task by task.
 use Rattle.rh_drawn.proofs.Common.{◌≡◌, ℕ, ◌+◌, ◌<◌, ◌≤◌, Bool, true, false, refl, ap, ap₂, sym, subst, ◌∙◌, arith, List, [], ◌∷◌, ◌++◌, length, map, take}
 use Rattle.rh_drawn.proofs.Common.{Option, Some, None, append-nil, ◌==◌, ◌&&◌, not, IfSome, codes, filter, find, if◌then◌else◌, AllByRecursion, flat_map}
-use Rattle.rh_drawn.proofs.Common.{list_any, option_map, ne_eqb, eqb-true, map-append, IsDesk, Rise, Parcel, Desk, Task, letterbox_line, under, Text}
+use Rattle.rh_drawn.proofs.Common.{list_any, option_map, ne_eqb, eqb-true, IsDesk, Rise, Parcel, Desk, Task, Text}
 use Rattle.rh_drawn.proofs.Common.{MessageItem, held_on, lies_in, message_items, waiting_on, has_letters_in, letterboxes_in}
 use Rattle.std.specs.List.{join_by}
 use Rattle.std.proofs.lemmas.List.{length-map, take-map}
@@ -22,10 +22,8 @@ use Rattle.rh_sight.specs.declared.message_list.Place.{Place}
 use Rattle.rh_sight.specs.declared.message_list.Place.TheVariants.{Held}
 use Rattle.rh_sight.specs.SightMessages.{before_next, items_behind, first_ref, held_ref, is_held_by, seen_item, message_place, waits_for}
 use Rattle.rh_sight.proofs.Posts.{held-is}
-use Rattle.rh_drawn.specs.Bands.{place_seen}
-use Rattle.rh_drawn.specs.Inner.BandItems.{IsItemOf}
-use Rattle.rh_drawn.specs.DrawnLetters.{entry_seen}
-use Rattle.rh_drawn.specs.Inner.LettersBehind.{letterbox_in}
+use Rattle.rh_drawn.specs.Inner.BandItems.{place_seen, IsItemOf}
+use Rattle.rh_drawn.specs.Inner.LettersBehind.{entry_seen, letterbox_in}
 use Rattle.rh_drawn.proofs.UnderLemmas.{is_some, some-more}
 
 -- ---- what waits for a task

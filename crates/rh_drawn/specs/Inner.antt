@@ -8,4 +8,5 @@ pub mod ReturnLines
 pub mod SlidesSeen
 pub mod SmallTasks
 pub mod StepsShown
+pub mod Surveys
 pub mod TransferWays

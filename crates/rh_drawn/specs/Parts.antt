@@ -1,16 +1,12 @@
 -- The lines of a figure, part by part.
-use Rattle.std.specs.Prelude.{List, [], ◌∷◌, ◌++◌, codes, map}
+use Rattle.std.specs.Prelude.{List, [], ◌∷◌, codes, map}
 use Rattle.std.specs.List.{flat_map}
 use Rattle.rh_defs.specs.Desk.{Task}
 use Rattle.rh_figure.specs.Phrases.{Text}
 use Rattle.rh_figure.specs.Scene.{Scene}
-use Rattle.rh_figure.specs.Figure.{Panel, figure, area_panels, slot_panel, panel_of_module, letterboxes, transfers}
+use Rattle.rh_figure.specs.Figure.{Panel, figure, slot_panel, panel_of_module, letterboxes, transfers}
 use Rattle.rh_figure.specs.Map.{panel_lines, marked_heading, letterbox_line, transfer_line, under, pool_heading}
 use Rattle.rh_figure.specs.Rows.{pool_rows}
-
--- lines behind two spaces
-abbrev pub indented : List Text → List Text
-indented lines = map (λ line. codes "  " ++ line) lines
 
 -- the panels of all slots
 abbrev pub slot_panels : Scene → List Panel
@@ -19,14 +15,6 @@ slot_panels x = map (slot_panel x) x.desk.tasks
 -- how many pages of the pool are free, and whose they are
 abbrev pub pool_part : Scene → List Text
 pool_part x = pool_heading (figure x) ∷ pool_rows (figure x)
-
--- panels by their names
-abbrev pub panel_part : List Panel → List Text
-panel_part panels = flat_map (λ (p : Panel). panel_lines p.name p) panels
-
--- areas that are pages alone
-abbrev pub area_part : Scene → List Text
-area_part x = panel_part (area_panels x)
 
 -- the heading of a slot, and what lies in it where it is drawn
 abbrev pub slot_lines : Scene → Task → List Text

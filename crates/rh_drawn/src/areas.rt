@@ -15,7 +15,8 @@ use rh_sight::{PagesOf, Sight, Step, pages_of};
 /// Shows each of areas 0 to 5 that has pages, but the module area, and each made area.
 pub fn show_areas<S: Sight, A: Artist, P: Pen>(sight: &S, step: &Step<'_>, artist: &A, pen: &mut P)
     requires { IsStepOf (S.desk sight.now) step.now }
-    ensures { P.offered pen.new ≡ P.offered pen.old ++ flat_map A.area_text (area_panels (scene_at (S.desk sight.now) step.now)) }
+    ensures { P.offered pen.new ≡ P.offered pen.old
+        ++ flat_map A.area_text (area_panels (scene_at (S.desk sight.now) step.now)) }
 {
     sight.spelled();
     for number in 0..FIXED_AREAS as u32 {

@@ -4,15 +4,17 @@ ghost use Rattle.std.specs.Prelude.{◌≡◌, ◌≤◌, ◌<◌, ◌++◌, ℕ
 ghost use Rattle.std.specs.Option.{option_map};
 ghost use Rattle.rh_defs.specs.Post.{most_messages};
 ghost use Rattle.rh_defs.specs.declared.sizes.TheConstants.{FIXED_AREAS, MAX_PAGES};
+ghost use Rattle.rh_figure.specs.Cards.{Card, flex_card, hole_card, more_card, used_card};
 ghost use Rattle.rh_figure.specs.Figure.{Letterbox, Panel, Transfer, area_panel, fixed_note, listed_pages, made_note};
-ghost use Rattle.rh_figure.specs.declared.limits.TheConstants.{MOST_LISTED};
+ghost use Rattle.rh_figure.specs.declared.limits.TheConstants.{CARD_BYTES, MOST_CARDS, MOST_LISTED};
 ghost use Rattle.rh_map.specs.MapAreas.{scrap_note_of};
-ghost use Rattle.rh_map.specs.MapMessages.{mapped_letterbox};
+ghost use Rattle.rh_map.specs.MapCards.{IsFrontOf, use_text};
+ghost use Rattle.rh_map.specs.MapMessages.{card_of, mapped_letterbox};
 ghost use Rattle.rh_map.specs.Sides.{side_of};
 
-use rh_defs::{Name, Ref};
+use rh_defs::{Anchor, Name, Ref};
 use rh_lines::{Pen, Row};
-use rh_map::{MessageEntry, ScrapFile, Side};
+use rh_map::{CardBlock, CardMessage, MessageEntry, ScrapFile, Side};
 
 /// What shows the things of a step as they are walked.
 pub trait Artist {
@@ -74,4 +76,53 @@ pub trait Artist {
           goes_out = option_map side_of goes_out.now;
           comes_in = option_map side_of comes_in.now;
         }) };
+}
+
+/// What shows the cards of a band, one after the other.
+pub trait CardArtist {
+    // There is room for a band.
+    ghost has_room: { Self → Type 0 };
+
+    // How a card is shown, with its place among those that are shown.
+    ghost card_text: { Self → ℕ × Card → List ℕ };
+
+    /// Shows the card of a flex block.
+    fn flex_card<P: Pen>(&self, at: u32, anchor: Anchor, block: &CardBlock<'_>, pen: &mut P)
+        requires few { at < MOST_CARDS }
+        requires room { has_room self.now }
+        requires front { length block.now.front.now ≤ CARD_BYTES }
+        ensures { (bytes : List ℕ) → IsFrontOf block.now.size block.now.front.now bytes →
+            P.offered pen.new ≡ P.offered pen.old ++ card_text self.now (
+              at,
+              flex_card block.now.address anchor bytes (use_text block.now.usage) block.now.fresh,
+            ) };
+
+    /// Shows the card of a block of a heap that is no message.
+    fn used_card<P: Pen>(&self, at: u32, block: &CardBlock<'_>, pen: &mut P)
+        requires few { at < MOST_CARDS }
+        requires room { has_room self.now }
+        requires front { length block.now.front.now ≤ CARD_BYTES }
+        ensures { (bytes : List ℕ) → IsFrontOf block.now.size block.now.front.now bytes →
+            P.offered pen.new ≡ P.offered pen.old ++ card_text self.now (
+              at,
+              used_card block.now.address bytes (use_text block.now.usage) block.now.fresh,
+            ) };
+
+    /// Shows the card of a hole.
+    fn hole_card<P: Pen>(&self, at: u32, address: u32, size: u32, pen: &mut P)
+        requires few { at < MOST_CARDS }
+        requires room { has_room self.now }
+        ensures { P.offered pen.new ≡ P.offered pen.old ++ card_text self.now (at, hole_card address size) };
+
+    /// Shows the card of a message.
+    fn message_card<P: Pen>(&self, at: u32, message: &CardMessage<'_>, pen: &mut P)
+        requires few { at < MOST_CARDS }
+        requires room { has_room self.now }
+        ensures { P.offered pen.new ≡ P.offered pen.old ++ card_text self.now (at, card_of message.now) };
+
+    /// Shows how many cards are left out.
+    fn others<P: Pen>(&self, at: u32, count: u32, pen: &mut P)
+        requires few { at < MOST_CARDS }
+        requires room { has_room self.now }
+        ensures { P.offered pen.new ≡ P.offered pen.old ++ card_text self.now (at, more_card count) };
 }

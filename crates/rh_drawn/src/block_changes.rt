@@ -7,8 +7,8 @@ ghost use Rattle.rh_defs.specs.declared.question.BlockItem.{BlockItem};
 ghost use Rattle.rh_defs.specs.declared.sizes.TheConstants.{ANCHORS};
 ghost use Rattle.rh_drawn.specs.DrawnSlides.{summary_of};
 ghost use Rattle.rh_drawn.specs.Inner.SlidesSeen.{from_seen, with_one};
-ghost use Rattle.rh_figure.specs.Changes.{Slide, block_change, block_changes, gone_line};
-ghost use Rattle.rh_figure.specs.Changes.{has_anchor as has_anchor_in, item_with_anchor, slide_change, slide_of, slides};
+ghost use Rattle.rh_figure.specs.Changes.{Slide, block_change, block_changes, gone_line, has_anchor as has_anchor_in};
+ghost use Rattle.rh_figure.specs.Changes.{item_with_anchor, slide_change, slide_of, slides};
 ghost use Rattle.rh_sight.specs.Steps.{scene_at};
 
 use crate::artist::Artist;

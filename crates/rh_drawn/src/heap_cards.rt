@@ -1,6 +1,6 @@
 //! The cards of a heap's blocks and holes, and of messages.
 
-ghost use Rattle.std.specs.Prelude.{◌≡◌, ◌≤◌, ◌<◌, ◌+◌, ◌-◌, ◌^◌, ◌==◌, ◌&&◌, ◌∷◌, ◌++◌, [], ℕ, IfSome, List, find};
+ghost use Rattle.std.specs.Prelude.{◌≡◌, ◌≤◌, ◌<◌, ◌+◌, ◌-◌, ◌^◌, ◌==◌, ◌&&◌, ◌++◌, ℕ, IfSome, List, find};
 ghost use Rattle.std.specs.Prelude.{if◌then◌else◌, length, nat_le, take, None, Some};
 ghost use Rattle.std.specs.List.{AllByRecursion};
 ghost use Rattle.rh_defs.specs.Desk.{Desk};
@@ -9,31 +9,29 @@ ghost use Rattle.rh_defs.specs.Questions.{segment_item};
 ghost use Rattle.rh_defs.specs.Messages.{Parcel};
 ghost use Rattle.rh_defs.specs.Records.{is_buffer_of};
 ghost use Rattle.rh_defs.specs.declared.sizes.TheConstants.{MODULE_START};
-ghost use Rattle.rh_drawn.specs.Bands.{IsBandOf, IsSurvey, band_card, band_cards, is_fresh_card, is_fresh_used};
-ghost use Rattle.rh_drawn.specs.Bands.{place_seen, with_item, with_items};
-ghost use Rattle.rh_drawn.specs.Inner.BandItems.{HasSegment, IsItemOf};
-ghost use Rattle.rh_drawn.specs.DrawnCards.{card_lines};
+ghost use Rattle.rh_drawn.specs.Bands.{IsBandOf, band_card, band_cards};
+ghost use Rattle.rh_drawn.specs.Inner.Surveys.{IsSurvey, is_fresh_card, is_fresh_used, with_item, with_items};
+ghost use Rattle.rh_drawn.specs.Inner.BandItems.{place_seen, HasSegment, IsItemOf};
+ghost use Rattle.rh_drawn.specs.DrawnCards.{cards_text};
 ghost use Rattle.rh_drawn.specs.Inner.CardsBehind.{cards_behind};
-ghost use Rattle.rh_figure.specs.Cards.{in_use_text, post_card, shown_cards, used_card};
+ghost use Rattle.rh_figure.specs.Cards.{hole_card, in_use_text, post_card, shown_cards, used_card};
 ghost use Rattle.rh_figure.specs.Scene.{live};
 ghost use Rattle.rh_figure.specs.declared.limits.TheConstants.{MOST_CARDS};
 ghost use Rattle.rh_map.specs.MapMessages.{place_text};
-ghost use Rattle.rh_map.specs.Written.{shown_lines};
 ghost use Rattle.rh_sight.specs.SightMessages.{lies_in};
 ghost use Rattle.rh_sight.specs.Seen.{SeesBlock, SeesFree, heap_seen, heap_start_of};
 ghost use Rattle.rh_sight.specs.Steps.{IsStepOf, scene_at};
 ghost use Rattle.rh_sight.specs.Inner.WalkItems.{IsInArea};
 
-use crate::cards::{front_length, print_others, shown_count};
+use crate::artist::CardArtist;
+use crate::cards::{front_length, shown_count};
 use crate::usage::use_of_buffer;
 use crate::who::who_of;
 use rh_defs::sizes::{HEAP_FIRST, MODULE_START, WORD};
 use rh_defs::{Handle, Incoming, MessageItem, SegmentItem};
 use rh_figure::limits::{CARD_BYTES, MOST_CARDS};
 use rh_lines::Pen;
-use rh_map::{
-    CardBlock, CardMessage, ChainPlace, print_hole_card, print_message_card, print_used_card,
-};
+use rh_map::{CardBlock, CardMessage, ChainPlace};
 use rh_sight::{
     HeapOf, Place, Sight, Step, heap_address, is_fresh_block, is_new_ref, message_in, place_behind,
     place_of,
@@ -56,77 +54,89 @@ pub struct Survey {
     pub fresh: Option<SegmentItem>,
 }
 
-/// Writes the cards of a heap's segments, from below.
-pub fn print_heap_cards<S: Sight, P: Pen>(sight: &S, step: &Step<'_>, band: &Band<'_>, pen: &mut P)
+/// Shows the cards of a heap's segments, from below.
+pub fn show_heap_cards<S: Sight, A: CardArtist, P: Pen>(
+    sight: &S,
+    step: &Step<'_>,
+    band: &Band<'_>,
+    artist: &A,
+    pen: &mut P,
+)
     requires step { IsStepOf (S.desk sight.now) step.now }
     requires band { IsBandOf (S.desk sight.now) band.now }
+    requires room { A.has_room artist.now }
     ensures { IfSome (heap_seen band.now.heap (S.desk sight.now)) (λ h. P.offered pen.new ≡ P.offered pen.old
-        ++ shown_lines (card_lines (shown_cards (band_cards (scene_at (S.desk sight.now) step.now) (S.desk sight.now)
-        band.now h)))) }
+        ++ cards_text (A.card_text artist.now) 0 (shown_cards (band_cards (scene_at (S.desk sight.now) step.now)
+        (S.desk sight.now) band.now h))) }
 {
     sight.spelled();
     let survey = take_survey(sight, step, band);
     let shown = shown_count(survey.count as usize);
-    print_first(sight, step, band, shown, pen);
+    show_first(sight, step, band, shown, artist, pen);
     if shown == survey.count as usize {
         return;
     }
-    print_behind(sight, step, band, &survey, pen);
+    show_behind(sight, step, band, &survey, artist, pen);
 }
 
-/// Writes the cards of the first segments.
-fn print_first<S: Sight, P: Pen>(
+/// Shows the cards of the first segments.
+fn show_first<S: Sight, A: CardArtist, P: Pen>(
     sight: &S,
     step: &Step<'_>,
     band: &Band<'_>,
     shown: usize,
+    artist: &A,
     pen: &mut P,
 )
     requires step { IsStepOf (S.desk sight.now) step.now }
     requires band { IsBandOf (S.desk sight.now) band.now }
     requires few { shown ≤ MOST_CARDS }
     requires there { IfSome (heap_seen band.now.heap (S.desk sight.now)) (λ h. shown ≤ length h.segments) }
+    requires room { A.has_room artist.now }
     ensures { IfSome (heap_seen band.now.heap (S.desk sight.now)) (λ h. P.offered pen.new ≡ P.offered pen.old
-        ++ shown_lines (card_lines (take shown (band_cards (scene_at (S.desk sight.now) step.now) (S.desk sight.now)
-        band.now h)))) }
+        ++ cards_text (A.card_text artist.now) 0 (take shown (band_cards (scene_at (S.desk sight.now) step.now)
+        (S.desk sight.now) band.now h))) }
 {
     let items = sight.segments(band.heap, HEAP_FIRST as u32);
     let first = items.as_slice();
     for k in 0..shown {
-        print_segment(sight, step, band, &first[k], pen);
+        show_segment(sight, step, band, &first[k], artist, k as u32, pen);
     }
 }
 
-/// Writes the card of the first changed segment of those behind the first 22, and how many are left out.
-fn print_behind<S: Sight, P: Pen>(
+/// Shows the card of the first changed segment of those behind the first 22, and how many are left out.
+fn show_behind<S: Sight, A: CardArtist, P: Pen>(
     sight: &S,
     step: &Step<'_>,
     band: &Band<'_>,
     survey: &Survey,
+    artist: &A,
     pen: &mut P,
 )
     requires step { IsStepOf (S.desk sight.now) step.now }
     requires band { IsBandOf (S.desk sight.now) band.now }
     requires many { MOST_CARDS < survey.now.count }
     requires few { survey.now.count < 2 ^ 32 }
-    requires survey { IfSome (heap_seen band.now.heap (S.desk sight.now))
-        (λ h. IsSurvey (scene_at (S.desk sight.now) step.now) band.now h survey.now) }
+    requires survey { IfSome (heap_seen band.now.heap (S.desk sight.now)) (λ h. IsSurvey (scene_at
+        (S.desk sight.now) step.now) band.now h survey.now) }
+    requires room { A.has_room artist.now }
     ensures { IfSome (heap_seen band.now.heap (S.desk sight.now)) (λ h. P.offered pen.new ≡ P.offered pen.old
-        ++ shown_lines (card_lines (cards_behind (band_cards (scene_at (S.desk sight.now) step.now) (S.desk sight.now)
-        band.now h)))) }
+        ++ cards_text (A.card_text artist.now) (MOST_CARDS - 2) (cards_behind (band_cards
+        (scene_at (S.desk sight.now) step.now) (S.desk sight.now) band.now h))) }
 {
-    let behind = survey.count as usize - (MOST_CARDS - 2);
+    let at = MOST_CARDS as u32 - 2;
+    let behind = survey.count - at;
     match survey.fresh {
         Some(item) => {
-            print_segment(sight, step, band, &item, pen);
-            print_others(behind, true, pen);
+            show_segment(sight, step, band, &item, artist, at, pen);
+            artist.others(at + 1, behind - 1, pen);
         }
-        None => print_others(behind, false, pen),
+        None => artist.others(at, behind, pen),
     }
 }
 
 /// Counts the segments of a heap, and finds the first changed one that isn't shown anyway where there are too many.
-pub fn take_survey<S: Sight>(sight: &S, step: &Step<'_>, band: &Band<'_>) -> Survey
+fn take_survey<S: Sight>(sight: &S, step: &Step<'_>, band: &Band<'_>) -> Survey
     requires step { IsStepOf (S.desk sight.now) step.now }
     requires band { IsBandOf (S.desk sight.now) band.now }
     ensures { IfSome (heap_seen band.now.heap (S.desk sight.now))
@@ -216,61 +226,78 @@ fn is_fresh(step: &Step<'_>, band: &Band<'_>, item: &SegmentItem) -> bool
 }
 
 /// The message in the block of the module area at an address.
-pub fn message_at(step: &Step<'_>, address: u32) -> Option<MessageItem>
+fn message_at(step: &Step<'_>, address: u32) -> Option<MessageItem>
     requires { MODULE_START ≤ address }
     ensures { result ≡ find (lies_in (address - MODULE_START)) step.now.messages.now }
 {
     message_in(step.messages, address - MODULE_START as u32)
 }
 
-/// Writes the card of a segment.
-fn print_segment<S: Sight, P: Pen>(
+/// Shows a segment as card `at` of those that are shown.
+fn show_segment<S: Sight, A: CardArtist, P: Pen>(
     sight: &S,
     step: &Step<'_>,
     band: &Band<'_>,
     item: &SegmentItem,
+    artist: &A,
+    at: u32,
     pen: &mut P,
 )
     requires step { IsStepOf (S.desk sight.now) step.now }
     requires band { IsBandOf (S.desk sight.now) band.now }
-    requires segment { (place : ℕ) × (segment : Segment) × HasSegment (heap_seen band.now.heap
-        (S.desk sight.now)) place segment × (item.now ≡ segment_item (heap_start_of band.now.heap + place) segment) }
-    ensures { (place : ℕ) (segment : Segment) → HasSegment (heap_seen band.now.heap (S.desk sight.now)) place segment
-        → item.now ≡ segment_item (heap_start_of band.now.heap + place) segment → P.offered pen.new ≡ P.offered pen.old
-        ++ shown_lines (card_lines (band_card (scene_at (S.desk sight.now) step.now) (S.desk sight.now) band.now
-        (heap_start_of band.now.heap + place) segment ∷ [])) }
+    requires segment { (place : ℕ) × (segment : Segment)
+        × HasSegment (heap_seen band.now.heap (S.desk sight.now)) place segment
+        × (item.now ≡ segment_item (heap_start_of band.now.heap + place) segment) }
+    requires few { at < MOST_CARDS }
+    requires room { A.has_room artist.now }
+    ensures { (place : ℕ) (segment : Segment) →
+        HasSegment (heap_seen band.now.heap (S.desk sight.now)) place segment →
+        item.now ≡ segment_item (heap_start_of band.now.heap + place) segment →
+        P.offered pen.new ≡ P.offered pen.old ++ A.card_text artist.now (
+          at,
+          band_card (scene_at (S.desk sight.now) step.now) (S.desk sight.now) band.now
+              (heap_start_of band.now.heap + place) segment,
+        ) }
 {
     sight.spelled();
     match item {
-        SegmentItem::Hole { address, size } => print_hole_card(*address, *size, pen),
+        SegmentItem::Hole { address, size } => artist.hole_card(at, *address, *size, pen),
         SegmentItem::Used { address, size } => match band.heap {
-            HeapOf::Task(_) => print_used(sight, step, band, *address, *size, pen),
+            HeapOf::Task(_) => show_used(sight, step, band, *address, *size, artist, at, pen),
             HeapOf::Module => match message_at(step, *address) {
-                Some(message) => print_message(sight, step, &message, pen),
-                None => print_used(sight, step, band, *address, *size, pen),
+                Some(message) => show_message(sight, step, &message, artist, at, pen),
+                None => show_used(sight, step, band, *address, *size, artist, at, pen),
             },
         },
     }
 }
 
-/// Writes the card of a block that is no message.
-fn print_used<S: Sight, P: Pen>(
+/// Shows the card of a block that is no message.
+fn show_used<S: Sight, A: CardArtist, P: Pen>(
     sight: &S,
     step: &Step<'_>,
     band: &Band<'_>,
     address: u32,
     size: u32,
+    artist: &A,
+    at: u32,
     pen: &mut P,
 )
     requires start { heap_start_of band.now.heap + 4 ≤ address }
-    requires block { (bytes : List ℕ) × SeesBlock (heap_seen band.now.heap (S.desk sight.now)) (address
-        - heap_start_of band.now.heap - 4) bytes × (length bytes ≡ size) }
+    requires block { (bytes : List ℕ)
+        × SeesBlock (heap_seen band.now.heap (S.desk sight.now)) (address - heap_start_of band.now.heap - 4) bytes
+        × (length bytes ≡ size) }
     requires free { SeesFree band.now.heap (address - heap_start_of band.now.heap - 4) (S.desk sight.now) }
-    ensures { (d : Desk) (bytes : List ℕ) → IsStepOf d step.now → SeesBlock (heap_seen band.now.heap (S.desk sight.now))
-        (address - heap_start_of band.now.heap - 4) bytes → length bytes ≡ size → P.offered pen.new ≡ P.offered pen.old
-        ++ shown_lines (card_lines (used_card address bytes
-        (in_use_text (find (is_buffer_of address) band.now.taking.now)) (is_fresh_used (scene_at d step.now) band.now
-        address) ∷ [])) }
+    requires few { at < MOST_CARDS }
+    requires room { A.has_room artist.now }
+    ensures { (d : Desk) (bytes : List ℕ) → IsStepOf d step.now →
+        SeesBlock (heap_seen band.now.heap (S.desk sight.now)) (address - heap_start_of band.now.heap - 4) bytes →
+        length bytes ≡ size →
+        P.offered pen.new ≡ P.offered pen.old ++ A.card_text artist.now (
+          at,
+          used_card address bytes (in_use_text (find (is_buffer_of address) band.now.taking.now))
+              (is_fresh_used (scene_at d step.now) band.now address),
+        ) }
 {
     let mut front = [0; CARD_BYTES];
     let bytes = &mut front[..front_length(size)];
@@ -283,11 +310,11 @@ fn print_used<S: Sight, P: Pen>(
         usage: use_of_buffer(band.taking, address),
         fresh: is_changed(step, band, address),
     };
-    print_used_card(&card, pen);
+    artist.used_card(at, &card, pen);
 }
 
 /// Whether the command has changed a block that is no message.
-pub fn is_changed(step: &Step<'_>, band: &Band<'_>, address: u32) -> bool
+fn is_changed(step: &Step<'_>, band: &Band<'_>, address: u32) -> bool
     ensures { (d : Desk) → result ≡ is_fresh_used (scene_at d step.now) band.now address }
 {
     match band.heap {
@@ -296,12 +323,23 @@ pub fn is_changed(step: &Step<'_>, band: &Band<'_>, address: u32) -> bool
     }
 }
 
-/// Writes the card of a message.
-fn print_message<S: Sight, P: Pen>(sight: &S, step: &Step<'_>, message: &MessageItem, pen: &mut P)
-    requires { IsStepOf (S.desk sight.now) step.now }
-    ensures { (p : Parcel) → find (λ (q : Parcel). q.block == p.block) (live (scene_at (S.desk sight.now) step.now))
-        ≡ Some p → IsItemOf message.now p → P.offered pen.new ≡ P.offered pen.old
-        ++ shown_lines (card_lines (post_card (scene_at (S.desk sight.now) step.now) p ∷ [])) }
+/// Shows the card of a message.
+fn show_message<S: Sight, A: CardArtist, P: Pen>(
+    sight: &S,
+    step: &Step<'_>,
+    message: &MessageItem,
+    artist: &A,
+    at: u32,
+    pen: &mut P,
+)
+    requires step { IsStepOf (S.desk sight.now) step.now }
+    requires few { at < MOST_CARDS }
+    requires room { A.has_room artist.now }
+    ensures { (p : Parcel) →
+        find (λ (q : Parcel). q.block == p.block) (live (scene_at (S.desk sight.now) step.now)) ≡ Some p →
+        IsItemOf message.now p →
+        P.offered pen.new ≡ P.offered pen.old
+        ++ A.card_text artist.now (at, post_card (scene_at (S.desk sight.now) step.now) p) }
 {
     sight.spelled();
     let place = chain_place(place_of(step.messages, *message));
@@ -317,11 +355,11 @@ fn print_message<S: Sight, P: Pen>(sight: &S, step: &Step<'_>, message: &Message
         place,
         fresh,
     };
-    print_message_card(&card, pen);
+    artist.message_card(at, &card, pen);
 }
 
 /// The same place, as a card has it.
-pub fn chain_place(place: Place) -> ChainPlace
+fn chain_place(place: Place) -> ChainPlace
     ensures { place_text result ≡ place_seen place }
 {
     match place {

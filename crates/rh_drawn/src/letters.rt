@@ -1,12 +1,13 @@
 //! Letterboxes: what each task holds, and what waits for it.
 
-ghost use Rattle.std.specs.Prelude.{◌≡◌, ◌≤◌, ◌<◌, ◌+◌, ◌∷◌, ◌++◌, [], List, filter, find, flat_map, length, map, min, take};
+ghost use Rattle.std.specs.Prelude.{◌≡◌, ◌≤◌, ◌<◌, ◌+◌, ◌∷◌, ◌++◌, [], List, filter, find, flat_map, length, map};
+ghost use Rattle.std.specs.Prelude.{min, take};
 ghost use Rattle.std.specs.List.{list_any};
 ghost use Rattle.std.specs.Option.{option_map};
 ghost use Rattle.rh_defs.specs.Post.{most_messages};
 ghost use Rattle.rh_defs.specs.Desk.{Task};
-ghost use Rattle.rh_drawn.specs.DrawnLetters.{entry_seen, has_letters_in};
-ghost use Rattle.rh_drawn.specs.Inner.LettersBehind.{letterboxes_in};
+ghost use Rattle.rh_drawn.specs.DrawnLetters.{has_letters_in};
+ghost use Rattle.rh_drawn.specs.Inner.LettersBehind.{entry_seen, letterboxes_in};
 ghost use Rattle.rh_drawn.specs.Parts.{letter_part};
 ghost use Rattle.rh_figure.specs.Figure.{letterboxes};
 ghost use Rattle.rh_figure.specs.declared.limits.TheConstants.{MOST_LISTED};

@@ -1,15 +1,16 @@
 //! What shows the things of a step as lines of a map.
 
 ghost use Rattle.std.specs.Prelude.{◌++◌, codes};
-ghost use Rattle.rh_figure.specs.Map.{letterbox_line, panel_lines, shown_line, transfer_line};
+ghost use Rattle.rh_figure.specs.Map.{card_line, letterbox_line, panel_lines, shown_line, transfer_line};
 ghost use Rattle.rh_map.specs.Written.{shown_lines};
 
-use crate::artist::Artist;
-use rh_defs::{Name, Ref};
+use crate::artist::{Artist, CardArtist};
+use rh_defs::{Anchor, Name, Ref};
 use rh_lines::{Pen, Row};
 use rh_map::{
-    MessageEntry, ScrapFile, Side, print_change, print_fixed_area, print_letterbox,
-    print_made_area, print_transfer,
+    CardBlock, CardMessage, MessageEntry, ScrapFile, Side, print_change, print_fixed_area,
+    print_flex_card, print_hole_card, print_letterbox, print_made_area, print_message_card,
+    print_more_card, print_transfer, print_used_card,
 };
 
 /// Shows each thing as a line of a map.
@@ -61,5 +62,31 @@ impl Artist for MapArtist {
         pen: &mut P,
     ) {
         print_transfer(id, goes_out, comes_in, pen);
+    }
+}
+
+impl CardArtist for MapArtist {
+    ghost has_room = { λ artist. Unit {0} };
+
+    ghost card_text = { λ artist placed. shown_line (card_line placed.1) ++ codes "\n" };
+
+    fn flex_card<P: Pen>(&self, _at: u32, anchor: Anchor, block: &CardBlock<'_>, pen: &mut P) {
+        print_flex_card(anchor, block, pen);
+    }
+
+    fn used_card<P: Pen>(&self, _at: u32, block: &CardBlock<'_>, pen: &mut P) {
+        print_used_card(block, pen);
+    }
+
+    fn hole_card<P: Pen>(&self, _at: u32, address: u32, size: u32, pen: &mut P) {
+        print_hole_card(address, size, pen);
+    }
+
+    fn message_card<P: Pen>(&self, _at: u32, message: &CardMessage<'_>, pen: &mut P) {
+        print_message_card(message, pen);
+    }
+
+    fn others<P: Pen>(&self, _at: u32, count: u32, pen: &mut P) {
+        print_more_card(count, pen);
     }
 }

@@ -5,8 +5,9 @@ ghost use Rattle.rh_drawn.specs.Parts.{module_part};
 ghost use Rattle.rh_map.specs.Written.{shown_lines};
 ghost use Rattle.rh_sight.specs.Steps.{IsStepOf, scene_at};
 
-use crate::heap_cards::{Band, print_heap_cards};
+use crate::heap_cards::{Band, show_heap_cards};
 use crate::lists::Lists;
+use crate::map_artist::MapArtist;
 use rh_defs::Handle;
 use rh_defs::sizes::{MODULE_AREA, MODULE_START};
 use rh_lines::Pen;
@@ -38,5 +39,5 @@ pub fn print_module_part<S: Sight, P: Pen>(
         handle: Handle(0),
         taking: &[],
     };
-    print_heap_cards(sight, step, &band, pen);
+    show_heap_cards(sight, step, &band, &MapArtist, pen);
 }

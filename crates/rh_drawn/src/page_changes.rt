@@ -24,7 +24,8 @@ pub fn show_page_changes<S: Sight, A: Artist, P: Pen>(
     pen: &mut P,
 )
     requires { IsStepOf (S.desk sight.now) step.now }
-    ensures { P.offered pen.new ≡ P.offered pen.old ++ flat_map A.change_text (page_changes (scene_at (S.desk sight.now) step.now)) }
+    ensures { P.offered pen.new ≡ P.offered pen.old
+        ++ flat_map A.change_text (page_changes (scene_at (S.desk sight.now) step.now)) }
 {
     show_fixed_takes(sight, step, artist, pen);
     show_made_takes(sight, step, artist, pen);

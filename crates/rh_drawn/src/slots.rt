@@ -13,9 +13,10 @@ ghost use Rattle.rh_map.specs.Written.{shown_lines};
 ghost use Rattle.rh_sight.specs.Seen.{IsTaskSeen};
 ghost use Rattle.rh_sight.specs.Steps.{IsStepOf, scene_at};
 
-use crate::flex_cards::print_flex_cards;
-use crate::heap_cards::{Band, print_heap_cards};
+use crate::flex_cards::show_flex_cards;
+use crate::heap_cards::{Band, show_heap_cards};
 use crate::lists::Lists;
+use crate::map_artist::MapArtist;
 use rh_defs::sizes::SLOT_START;
 use rh_lines::Pen;
 use rh_map::{Area, SlotHeading, print_area, print_slot_heading, slot_mark};
@@ -112,11 +113,11 @@ fn print_slot<S: Sight, P: Pen>(
         pieces: &lists.pieces,
     };
     print_area(&area, pen);
-    print_flex_cards(sight, step, i, task, &lists.blocks, pen);
+    show_flex_cards(sight, step, i, task, &lists.blocks, &MapArtist, pen);
     let band = Band {
         heap: HeapOf::Task(i),
         handle: task.handle,
         taking: task.taking,
     };
-    print_heap_cards(sight, step, &band, pen);
+    show_heap_cards(sight, step, &band, &MapArtist, pen);
 }

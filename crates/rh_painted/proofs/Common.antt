@@ -28,20 +28,15 @@ pub use Rattle.rh_defs.specs.declared.question.BlockItem.{BlockItem}
 pub use Rattle.rh_defs.specs.declared.message.MessageItem.{MessageItem}
 pub use Rattle.rh_drawn.proofs.CardLemmas.{flex-long}
 pub use Rattle.rh_drawn.proofs.DrawingLemmas.{seen-same}
-pub use Rattle.rh_drawn.proofs.HeapLemmas.{cards-long, from-first, if-heap}
+pub use Rattle.rh_drawn.proofs.HeapLemmas.{cards-long, from-first}
 pub use Rattle.rh_drawn.proofs.PageLemmas.{owned, owned-few, seen-fixed, seen-slot}
-pub use Rattle.rh_drawn.specs.Bands.{band_cards}
-pub use Rattle.rh_drawn.specs.Inner.CardsBehind.{cards_behind}
 pub use Rattle.rh_drawn.specs.Deeds.{reply_to, rest_means}
-pub use Rattle.rh_drawn.specs.Inner.LettersBehind.{letterboxes_in}
-pub use Rattle.rh_drawn.specs.Inner.ReturnLines.{return_lines}
 pub use Rattle.rh_drawn.specs.DrawnSides.{ins_of, outs_of}
 pub use Rattle.rh_feed.proofs.LineLemmas.{kept_means}
 unfoldable pub use Rattle.rh_feed.specs.Lines.{kept}
 pub use Rattle.rh_figure.specs.Cards.{flex_cards, heap_cards, module_cards, shown_cards}
-pub use Rattle.rh_figure.specs.Changes.{block_change, changes, freed_text, gone_line, has_anchor, item_with_anchor, slide_change, slide_of, slides, taken_line}
-pub use Rattle.rh_figure.specs.Changes.{takes_text}
-pub use Rattle.rh_figure.specs.Figure.{fixed_panel, letterboxes, made_panel, transfers}
+pub use Rattle.rh_figure.specs.Changes.{changes, item_with_anchor, slide_of, slides, taken_line}
+pub use Rattle.rh_figure.specs.Figure.{letterboxes, transfers}
 pub use Rattle.rh_figure.specs.Map.{Place, Read, Stage, after_read}
 pub use Rattle.rh_figure.specs.Phrases.{Text, area_name, owner_name, size_text, task_name, where_so}
 pub use Rattle.rh_figure.specs.Scene.{Before, Scene, marks_of, scene_of}
@@ -50,15 +45,15 @@ pub use Rattle.rh_figure.specs.Whole.{AreShared}
 pub use Rattle.rh_figure.specs.declared.piece.Piece.{Piece}
 pub use Rattle.rh_lines.proofs.FlowLemmas.{takes_more, takes_none}
 pub use Rattle.rh_lines.specs.Flow.{Breaks, Output, Puts, Takes}
-pub use Rattle.rh_map.proofs.Left.{Left, left_less, left_none, left_whole}
+pub use Rattle.rh_map.proofs.Left.{Left, left_less, left_none}
 pub use Rattle.rh_draw.proofs.WriteLemmas.{offered_as}
 pub use Rattle.rh_sheet.specs.SheetAreas.{lens_below, ticks_text}
 pub use Rattle.rh_sheet.specs.Chart.{arrow_sentence, arrows, followed, inserted, noted, steps_in, tasks_in}
 pub use Rattle.rh_sheet.specs.SheetLaws.{at_desk}
-pub use Rattle.rh_sheet.specs.Markup.{change_item, escape, escaped_byte, figure_open, heading_text}
+pub use Rattle.rh_sheet.specs.Markup.{escape, escaped_byte, figure_open, heading_text}
 pub use Rattle.rh_sheet.specs.SheetRows.{Plot}
 pub use Rattle.rh_sheet.specs.Sheet.{Happened, Walk, behind_read, fault_happened, happened_text, read_text, sheet_lines}
-pub use Rattle.rh_sheet.specs.SheetSteps.{area_heading, changes_text, said_end, slot_part, step_end, step_text}
+pub use Rattle.rh_sheet.specs.SheetSteps.{changes_text, said_end, slot_part, step_end, step_text}
 unfoldable pub use Rattle.rh_sheet.specs.SheetSteps.{figure_text}
 pub use Rattle.rh_sheet.specs.Tables.{letterbox_row, messages_table, transfer_row, transfers_table}
 pub use Rattle.rh_sheet.specs.declared.frame.Frame.{Frame}
@@ -66,13 +61,13 @@ pub use Rattle.rh_sheet.specs.declared.note.Note.{Note}
 pub use Rattle.rh_sight.proofs.Heaps.{task-slot}
 pub use Rattle.rh_sight.proofs.Holders.{at-some}
 pub use Rattle.rh_sight.proofs.PieceWalks.{items-long}
-pub use Rattle.rh_sight.proofs.Places.{rest-some}
 pub use Rattle.rh_sight.proofs.SlotPieces.{few-blocks}
 pub use Rattle.rh_sight.specs.SightMessages.{held_on, message_items, waiting_on}
-pub use Rattle.rh_sight.specs.Seen.{IsTaskSeen, heap_seen, heap_start_of}
+pub use Rattle.rh_sight.specs.Seen.{IsTaskSeen, heap_seen}
 pub use Rattle.rh_sight.specs.Steps.{scene_at}
 pub use Rattle.rh_sight.specs.declared.walk.Census.{Census}
-pub use Rattle.rh_painted.specs.PaintedBands.{band_text_from, form_text}
+pub use Rattle.rh_painted.specs.PaintedBands.{form_text}
+pub use Rattle.rh_painted.specs.Inner.BandTexts.{band_text_from}
 pub use Rattle.rh_painted.specs.Inner.Charts.{beat_in, path_in, words_in}
 pub use Rattle.rh_painted.specs.Inner.Figures.{IsSlotPlan}
 pub use Rattle.rh_painted.specs.Inner.Notes.{code_among}

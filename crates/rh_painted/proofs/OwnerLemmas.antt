@@ -1,14 +1,13 @@
 -- The owners of pages as they are seen, one after the other.
-use Rattle.rh_painted.proofs.Common.{◌≡◌, ℕ, ◌+◌, ◌<◌, ◌≤◌, ap, sym, ◌∙◌, arith, refl, true, List, [], ◌∷◌, ◌++◌, length, map, append-nil, nat_lt, IfNone}
-use Rattle.rh_painted.proofs.Common.{IfSome, codes, slice_get, slice_index, if◌then◌else◌, ◌==◌, Option, Some, None, enumerate_from, flat_map, nat_tests}
-use Rattle.rh_painted.proofs.Common.{length-append, length-map, Desk, Task, module_pages, task_at, taken_line, takes_text, owner_name, Scene, AreaOf, Holding}
-use Rattle.rh_painted.proofs.Common.{IsShared, SlotOf, count_of, holdings, change_item, IsTaskSeen, at-some, owned-few, seen-fixed, seen-slot, who_seen}
+use Rattle.rh_painted.proofs.Common.{◌≡◌, ℕ, ◌+◌, ◌<◌, ◌≤◌, ap, sym, ◌∙◌, arith, refl, List, ◌++◌, length, map, IfNone}
+use Rattle.rh_painted.proofs.Common.{IfSome, codes, slice_get, slice_index, if◌then◌else◌, ◌==◌, Option, Some, None, enumerate_from}
+use Rattle.rh_painted.proofs.Common.{length-append, length-map, Desk, Task, module_pages, task_at, AreaOf, Holding}
+use Rattle.rh_painted.proofs.Common.{IsShared, SlotOf, count_of, holdings, IsTaskSeen, at-some, owned-few, seen-fixed, seen-slot, who_seen}
 use Rattle.std.proofs.lemmas.List.FromFn.{length-enumerate_from}
 use Rattle.std.proofs.lemmas.Option.{slice_get_past}
 use Rattle.rh_defs.specs.declared.sizes.TheConstants.{MAX_AREAS}
 use Rattle.rh_defs.specs.Desk.{module_area, Made, task_pages}
 use Rattle.rh_defs.specs.Laws.{IsDesk}
-use Rattle.rh_figure.specs.Changes.{taken_pages}
 use Rattle.rh_figure.specs.Phrases.{name_or}
 use Rattle.rh_figure.specs.Share.{fixed_holding}
 use Rattle.rh_sheet.specs.Owners.{slot_tag}

@@ -1,6 +1,5 @@
 -- Cards as they are drawn, or read out.
-use Rattle.std.specs.Prelude.{ℕ, ◌≤◌, List}
-use Rattle.std.specs.List.{flat_map, enumerate_from}
+use Rattle.std.specs.Prelude.{ℕ, ◌≤◌}
 use Rattle.rh_figure.specs.Phrases.{Text}
 use Rattle.rh_figure.specs.Cards.{Card}
 use Rattle.rh_sheet.specs.Markup.{escape}
@@ -19,10 +18,3 @@ abbrev pub IsFit : Form → Type 0
 IsFit Told = Unit {0}
 IsFit (Below y) = y ≤ 1000
 IsFit (Above y) = y ≤ 1000
-
--- what is written of some cards, of which the first has a place among those that are shown
-abbrev pub band_text_from : Form → ℕ → List Card → Text
-band_text_from form k cards = flat_map (form_text form) (enumerate_from k cards)
-
-abbrev pub band_text : Form → List Card → Text
-band_text form cards = band_text_from form 0 cards

@@ -2,7 +2,6 @@
 
 ghost use Rattle.std.specs.Prelude.{◌≡◌, ◌≤◌, ◌<◌, ◌+◌, ◌++◌, length};
 ghost use Rattle.rh_draw.specs.DrawCards.{drawn_card};
-ghost use Rattle.rh_figure.specs.Cards.{more_card};
 ghost use Rattle.rh_figure.specs.declared.limits.TheConstants.{MOST_CARDS};
 ghost use Rattle.rh_lines.specs.declared.row.TheConstants.{ROW};
 ghost use Rattle.rh_painted.specs.PaintedBands.{IsFit, form_text};
@@ -10,9 +9,14 @@ ghost use Rattle.rh_painted.specs.Inner.BandNames.{with_comma};
 ghost use Rattle.rh_sheet.specs.SheetCards.{card_sentence};
 ghost use Rattle.rh_sheet.specs.Markup.{escape};
 
+use rh_defs::Anchor;
 use rh_draw::{Card, Look, print_high_card, print_low_card, put_escaped};
+use rh_drawn::CardArtist;
 use rh_lines::{Pen, Row};
-use rh_map::others_name;
+use rh_map::{
+    CardBlock, CardMessage, add_size, block_bytes, block_size, flex_name, hole_name, message_name,
+    message_place, message_way, others_name, used_name,
+};
 
 /// What becomes of the cards of a band: they are read out, or drawn below a height or above it.
 #[derive(Clone, Copy)]
@@ -22,8 +26,82 @@ pub enum Form {
     Above(u32),
 }
 
+impl CardArtist for Form {
+    ghost has_room = { IsFit };
+
+    ghost card_text = { form_text };
+
+    fn flex_card<P: Pen>(&self, at: u32, anchor: Anchor, block: &CardBlock<'_>, pen: &mut P) {
+        let name = flex_name(anchor, block.address);
+        let size = block_size(block);
+        let first = block_bytes(block);
+        let card = Card {
+            look: Look::Flex,
+            fresh: block.fresh,
+            first: name.as_slice(),
+            second: size.as_slice(),
+            third: first.as_slice(),
+        };
+        put_card(*self, at, &card, pen);
+    }
+
+    fn used_card<P: Pen>(&self, at: u32, block: &CardBlock<'_>, pen: &mut P) {
+        let name = used_name(block.usage, block.address);
+        let size = block_size(block);
+        let first = block_bytes(block);
+        let card = Card {
+            look: Look::Used,
+            fresh: block.fresh,
+            first: name.as_slice(),
+            second: size.as_slice(),
+            third: first.as_slice(),
+        };
+        put_card(*self, at, &card, pen);
+    }
+
+    fn hole_card<P: Pen>(&self, at: u32, address: u32, size: u32, pen: &mut P) {
+        let name = hole_name(address);
+        let mut bytes = Row::new();
+        add_size(&mut bytes, size);
+        let card = Card {
+            look: Look::Hole,
+            fresh: false,
+            first: name.as_slice(),
+            second: bytes.as_slice(),
+            third: b"",
+        };
+        put_card(*self, at, &card, pen);
+    }
+
+    fn message_card<P: Pen>(&self, at: u32, message: &CardMessage<'_>, pen: &mut P) {
+        let name = message_name(message.my_ref, message.action);
+        let way = message_way(message.code, &message.from, &message.to);
+        let chain = message_place(message.code, message.place);
+        let card = Card {
+            look: Look::Post,
+            fresh: message.fresh,
+            first: name.as_slice(),
+            second: way.as_slice(),
+            third: chain.as_slice(),
+        };
+        put_card(*self, at, &card, pen);
+    }
+
+    fn others<P: Pen>(&self, at: u32, count: u32, pen: &mut P) {
+        let name = others_name(count);
+        let card = Card {
+            look: Look::More,
+            fresh: false,
+            first: name.as_slice(),
+            second: b"",
+            third: b"",
+        };
+        put_card(*self, at, &card, pen);
+    }
+}
+
 /// Writes card k of those that are shown.
-pub fn put_card<P: Pen>(form: Form, k: u32, card: &Card<'_>, pen: &mut P)
+fn put_card<P: Pen>(form: Form, k: u32, card: &Card<'_>, pen: &mut P)
     requires few { k < MOST_CARDS }
     requires height { IsFit form }
     requires short { length card.now.first.now + length card.now.second.now + length card.now.third.now ≤ 200 }
@@ -62,21 +140,4 @@ fn add_behind_comma(row: &mut Row, text: &[u8])
         row.text(b", ");
     }
     row.text(text);
-}
-
-/// Writes how many cards are left out of those behind the first ones, of which a changed one may be shown.
-pub fn put_others<P: Pen>(form: Form, k: u32, count: u32, pen: &mut P)
-    requires few { k < MOST_CARDS }
-    requires height { IsFit form }
-    ensures { P.offered pen.new ≡ P.offered pen.old ++ form_text form (k, more_card count) }
-{
-    let name = others_name(count);
-    let card = Card {
-        look: Look::More,
-        fresh: false,
-        first: name.as_slice(),
-        second: b"",
-        third: b"",
-    };
-    put_card(form, k, &card, pen);
 }

@@ -8,8 +8,6 @@ mod aside;
 mod bands;
 mod chart;
 mod figure;
-mod flex_cards;
-mod heap_cards;
 mod letters;
 mod modules;
 mod notes;

@@ -14,7 +14,6 @@ ghost use Rattle.rh_sight.specs.Walks.{census_of};
 
 use crate::areas::print_area_heading;
 use crate::bands::Form;
-use crate::heap_cards::put_heap_cards;
 use crate::rows::{put_pages, rows_for};
 use rh_defs::Handle;
 use rh_defs::sizes::{HEAP_FIRST, MODULE_AREA, MODULE_START};
@@ -22,7 +21,7 @@ use rh_draw::{
     Plot, Tint, foot, height, print_described, print_figure_end, print_figure_open,
     print_lens_below, print_rows,
 };
-use rh_drawn::{Band, Lists};
+use rh_drawn::{Band, Lists, show_heap_cards};
 use rh_lines::{Pen, Row};
 use rh_map::add_pages;
 use rh_sheet::Frame;
@@ -88,7 +87,7 @@ fn print_description<S: Sight, P: Pen>(sight: &S, step: &Step<'_>, pages: &[u16]
         handle: Handle(0),
         taking: &[],
     };
-    put_heap_cards(sight, step, &band, Form::Told, pen);
+    show_heap_cards(sight, step, &band, &Form::Told, pen);
 }
 
 /// Writes what leads to the cards, the rows, and the cards.
@@ -116,5 +115,5 @@ fn print_body<S: Sight, P: Pen>(
         handle: Handle(0),
         taking: &[],
     };
-    put_heap_cards(sight, step, &band, below, pen);
+    show_heap_cards(sight, step, &band, &below, pen);
 }

@@ -18,8 +18,6 @@ ghost use Rattle.rh_sight.specs.Steps.{IsStepOf, scene_at};
 
 use crate::arrows::print_arrow_of;
 use crate::bands::Form;
-use crate::flex_cards::put_flex_cards;
-use crate::heap_cards::put_heap_cards;
 use crate::rows::{put_pages, rows_for};
 use rh_defs::BlockItem;
 use rh_defs::sizes::{C_HEAP_PLACE, HEAP_FIRST, SLOT_START};
@@ -27,7 +25,7 @@ use rh_draw::{
     Plot, Tint, foot, height, print_described, print_figure_end, print_figure_open, print_heading,
     print_lens_above, print_lens_below, print_rows, print_tick, put_escaped, row_y, top,
 };
-use rh_drawn::{Band, Lists, count_tasks};
+use rh_drawn::{Band, Lists, count_tasks, show_flex_cards, show_heap_cards};
 use rh_lines::{Pen, Row};
 use rh_map::{SlotHeading, add_size, add_slot_note};
 use rh_sheet::Frame;
@@ -196,8 +194,8 @@ fn print_description<S: Sight, P: Pen>(
         handle: task.handle,
         taking: task.taking,
     };
-    put_heap_cards(sight, step, &band, Form::Told, pen);
-    put_flex_cards(sight, step, plan.i, task, plan.blocks, Form::Told, pen);
+    show_heap_cards(sight, step, &band, &Form::Told, pen);
+    show_flex_cards(sight, step, plan.i, task, plan.blocks, &Form::Told, pen);
 }
 
 /// Writes what leads to the cards, cards of flex blocks, rows, ticks, the arrow of a slide, and cards of the C heap.
@@ -218,7 +216,7 @@ fn print_body<S: Sight, P: Pen>(
     let frame = plan.frame;
     print_lenses(sight, step, task, plan, pen);
     let above = Form::Above(top(frame).saturating_sub(LENS_HEIGHT));
-    put_flex_cards(sight, step, plan.i, task, plan.blocks, above, pen);
+    show_flex_cards(sight, step, plan.i, task, plan.blocks, &above, pen);
     print_rows(frame, &plan.plot, pen);
     print_ticks(row_y(frame, 0), plan.blocks, pen);
     print_arrow_of(step, frame, task.handle, plan.blocks, pen);
@@ -228,7 +226,7 @@ fn print_body<S: Sight, P: Pen>(
         handle: task.handle,
         taking: task.taking,
     };
-    put_heap_cards(sight, step, &band, below, pen);
+    show_heap_cards(sight, step, &band, &below, pen);
 }
 
 /// Writes what leads from the rows to the cards.

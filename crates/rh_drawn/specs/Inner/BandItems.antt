@@ -1,8 +1,12 @@
 -- Items of lists, by the heap or the post that has them.
-use Rattle.std.specs.Prelude.{◌≡◌, ℕ, List, ◌∷◌, ◌++◌, Option, Some}
+use Rattle.std.specs.Prelude.{◌≡◌, ℕ, List, ◌∷◌, ◌++◌, codes, Option, Some}
+use Rattle.std.specs.Fmt.{decimal}
 use Rattle.rh_defs.specs.Messages.{Parcel, action_of}
 use Rattle.rh_defs.specs.Heap.{Segment, Heap, place_after}
 use Rattle.rh_defs.specs.declared.message.MessageItem.{MessageItem}
+use Rattle.rh_figure.specs.Phrases.{Text}
+use Rattle.rh_sight.specs.declared.message_list.Place.{Place}
+use Rattle.rh_sight.specs.declared.message_list.Place.TheVariants.{Held, Before, Last}
 
 -- a segment begins at the place of a heap that may be there
 pub record HasSegment (h : Option Heap) (place : ℕ) (segment : Segment) : Type 0 where
@@ -21,3 +25,9 @@ pub record IsItemOf (m : MessageItem) (p : Parcel) : Type 0 where
   pub my_ref : m.my_ref ≡ p.message.my_ref
   pub action : m.action ≡ action_of p.message.body
   pub code : m.code ≡ p.code
+
+-- where a message stands in its chain
+abbrev pub place_seen : Place → Text
+place_seen Held = codes "held"
+place_seen (Before next) = codes "then " ++ decimal next
+place_seen Last = codes "last"

@@ -4,9 +4,14 @@ use Rattle.std.specs.Option.{option_map}
 use Rattle.rh_figure.specs.Figure.{Letterbox}
 use Rattle.rh_figure.specs.declared.limits.TheConstants.{MOST_LISTED}
 use Rattle.rh_map.specs.MapMessages.{mapped_letterbox}
+use Rattle.rh_map.specs.declared.letterboxes.MessageEntry.{MessageEntry}
 use Rattle.rh_sight.specs.SightMessages.{is_held_by, waits_for}
 use Rattle.rh_defs.specs.declared.message.MessageItem.{MessageItem}
-use Rattle.rh_drawn.specs.DrawnLetters.{entry_seen, has_letters_in}
+use Rattle.rh_drawn.specs.DrawnLetters.{has_letters_in}
+
+-- a message as a letterbox has it
+abbrev pub entry_seen : MessageItem → MessageEntry
+entry_seen m = record { my_ref = m.my_ref; action = m.action; code = m.code }
 
 -- the letterbox of the task with the name and the handle
 abbrev pub letterbox_in : List ℕ → ℕ → List MessageItem → Letterbox

@@ -1,5 +1,5 @@
 use Rattle.rh_drawn.proofs.Common.{ap, sym, ◌∙◌, scene_at}
-use Rattle.rh_drawn.specs.Bands.{is_fresh_block_of}
+use Rattle.rh_drawn.specs.Inner.Surveys.{is_fresh_block_of}
 use Rattle.rh_drawn.proofs.heap_cards.is_changed.Goals as goal
 
 pub returns-in-Task : goal.returns-in-Task

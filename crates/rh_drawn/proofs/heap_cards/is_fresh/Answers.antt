@@ -1,7 +1,7 @@
 use Rattle.rh_drawn.proofs.Common.{◌≡◌, ℕ, ◌-◌, Option, Some, None, ap, refl, subst, sym, ◌∙◌, ◌==◌, find, Parcel, Scene, message_of_scene, MessageItem}
 use Rattle.rh_drawn.proofs.Common.{lies_in}
 use Rattle.rh_drawn.proofs.Common.{message_items, scene_at, is_fresh_card}
-use Rattle.rh_drawn.specs.Bands.{is_fresh_at, is_fresh_or_posted}
+use Rattle.rh_drawn.specs.Inner.Surveys.{is_fresh_at, is_fresh_or_posted}
 use Rattle.rh_drawn.proofs.PostLemmas.{Told, message-told}
 use Rattle.rh_drawn.proofs.heap_cards.is_fresh.Goals as goal
 

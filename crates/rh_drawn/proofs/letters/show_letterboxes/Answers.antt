@@ -1,4 +1,4 @@
-use Rattle.rh_drawn.proofs.Common.{◌≡◌, ◌<◌, ◌∙◌, length, ap, ap₂, refl, arith, flat_map, slice_get_within, Task, letterboxes_in, scene_at}
+use Rattle.rh_drawn.proofs.Common.{◌<◌, ◌∙◌, length, ap, ap₂, refl, arith, flat_map, slice_get_within, Task, letterboxes_in}
 use Rattle.rh_map.proofs.Left.{left_less, left_none}
 use Rattle.rh_drawn.proofs.PostLemmas.{boxes, boxes-are}
 use Rattle.rh_drawn.proofs.TextPuts.{left_from}

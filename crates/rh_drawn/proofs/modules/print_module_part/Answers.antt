@@ -5,6 +5,7 @@ use Rattle.rh_figure.specs.Figure.{module_drawing}
 use Rattle.rh_figure.specs.Map.{name_with_mark}
 use Rattle.rh_figure.specs.Phrases.{pages_text}
 use Rattle.rh_sight.specs.declared.sight.PagesOf.TheVariants as pages
+use Rattle.rh_drawn.proofs.CardLemmas.{cards-lined}
 use Rattle.rh_drawn.proofs.DrawingLemmas.{rows-are}
 use Rattle.rh_drawn.proofs.PageLemmas.{owned, owned-few, seen-fixed}
 use Rattle.rh_drawn.proofs.Walks.{lines_then, offered_line, offered_as}
@@ -30,4 +31,4 @@ returns g c =
     (offered_line _ (ap heading c.fixed_pages.ensures) c.print_module_heading.ensures)
     (lines_then _ (area_rows (module_drawing x)) (card_lines (shown_cards (module_cards x)))
     (offered_as _ (ap shown_lines (rows-are (module_drawing x) _ _ _ refl is (c.deref.ensures.0 ∙ c.module_pieces.ensures))) c.print_area.ensures)
-    c.print_heap_cards.ensures)
+    (offered_as _ (cards-lined 0 (shown_cards (module_cards x))) c.show_heap_cards.ensures))

@@ -21,7 +21,8 @@ areas-preserved g c =
     let element = g.A.Artist.change_text in
     let of = takes_text (scene_at d c.args.step.now) in
     left_less _ c.areas.invariant (text-some (λ (xs : List Made). flat_map element (flat_map of (map made_holding xs)))
-    (λ x. flat_map element (of (made_holding x))) (λ x rest. parts-both element (of (made_holding x)) (flat_map of (map made_holding rest))) d.made c.areas.i _ c.in-Some.ensures.some)
+    (λ x. flat_map element (of (made_holding x)))
+    (λ x rest. parts-both element (of (made_holding x)) (flat_map of (map made_holding rest))) d.made c.areas.i _ c.in-Some.ensures.some)
     c.show_area_takes.ensures
 
 pub returns : goal.returns

@@ -12,7 +12,8 @@ tasks-preserved g c =
     let of = takes_text (scene_at d c.args.step.now) in
     let r = c.in-Some.ensures.some in
     left_less _ c.tasks.invariant (text-some (λ (xs : List Task). flat_map element (flat_map of (map slot_holding xs)))
-    (λ x. flat_map element (of (slot_holding x))) (λ x rest. parts-both element (of (slot_holding x)) (flat_map of (map slot_holding rest))) d.tasks c.tasks.i r.0 r.1)
+    (λ x. flat_map element (of (slot_holding x)))
+    (λ x rest. parts-both element (of (slot_holding x)) (flat_map of (map slot_holding rest))) d.tasks c.tasks.i r.0 r.1)
     (c.show_slot_takes.ensures r.0 r.1)
 
 pub returns : goal.returns

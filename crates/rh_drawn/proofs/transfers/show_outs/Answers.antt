@@ -1,4 +1,4 @@
-use Rattle.rh_drawn.proofs.Common.{◌≡◌, ◌<◌, length, map, ap₂, refl, arith, flat_map, slice_get_within, Task, goes_out, ins_of, outs_named}
+use Rattle.rh_drawn.proofs.Common.{◌<◌, length, map, ap₂, refl, arith, flat_map, slice_get_within, Task, goes_out, ins_of, outs_named}
 use Rattle.rh_map.proofs.Left.{left_less, left_none}
 use Rattle.rh_drawn.proofs.TransferLemmas.{outs-flat}
 use Rattle.rh_drawn.proofs.TextPuts.{left_from}

@@ -50,4 +50,4 @@ returns g c =
     let lens = ap (λ z. lens_below z 16 c.args.census.end c.args.census.count) same ∙ ap₂ (lens_below (module_frame x) 16) end count in
     text_then (g.P.Pen.offered c.args.pen.now) _ _ (offered_as _ lens c.print_lens_below.ensures)
     (text_then (g.P.Pen.offered c.print_lens_below.new.pen) _ _ (offered_as _ (ap₂ rows_text same c.requires.plot) c.print_rows.ensures)
-    (text_last _ _ (offered_as _ (ap (λ n. cards_below (n + 16) (module_cards x)) (c.foot.ensures.value ∙ ap rows_foot same)) c.put_heap_cards.ensures)))
+    (text_last _ _ (offered_as _ (ap (λ n. cards_below (n + 16) (module_cards x)) (c.foot.ensures.value ∙ ap rows_foot same)) c.show_heap_cards.ensures)))

@@ -12,4 +12,4 @@ returns g c =
     let first = pages_sentence (x.share.pages_of (AreaOf 1)) in
     offered_as _ (sym (flat_map-append escaped_byte first (cards_sentences (module_cards x))))
     (text_then _ _ _ (offered_as _ (ap (λ z. escape (pages_sentence z)) c.requires.pages) c.put_pages.ensures)
-    (offered_as _ (told-all 0 (shown_cards (module_cards x))) c.put_heap_cards.ensures))
+    (offered_as _ (told-all 0 (shown_cards (module_cards x))) c.show_heap_cards.ensures))

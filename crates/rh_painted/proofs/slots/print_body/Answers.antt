@@ -15,7 +15,7 @@ use Rattle.rh_sight.specs.declared.sight.PagesOf.TheVariants as pages
 use Rattle.rh_sight.proofs.Heaps.{task-length}
 use Rattle.rh_drawn.specs.Bands.{card_of_task}
 use Rattle.rh_drawn.proofs.DrawingLemmas.{task-stands}
-use Rattle.rh_painted.specs.PaintedBands.{band_text}
+use Rattle.rh_painted.specs.Inner.BandTexts.{band_text}
 use Rattle.rh_painted.specs.declared.bands.Form.TheVariants.{Below}
 use Rattle.rh_painted.proofs.LensLemmas.{arrow-same}
 use Rattle.rh_painted.proofs.SlotLemmas.{EndsBy, anchors-small, slot-ends}
@@ -31,8 +31,8 @@ parts-same : (x : Scene) {h k : ℕ} {f g : Frame} {bs cs : List BlockItem} → 
 parts-same x {h} {k} {f} {g} {bs} {cs} i j l =
     ap (λ z. arrow_with x z f bs) i ∙ (ap (λ z. arrow_with x k z bs) j ∙ ap (arrow_with x k g) l)
 
-pub put_flex_cards-requires-clause-few : goal.put_flex_cards-requires-clause-few
-put_flex_cards-requires-clause-few g c =
+pub show_flex_cards-requires-clause-few : goal.show_flex_cards-requires-clause-few
+show_flex_cards-requires-clause-few g c =
     let r = c.requires.task in
     let few = few-blocks r.0.slot.blocks (task-slot c.spelled.ensures c.args.plan.now.i r.0 r.1).anchors in
     omega (arith, few, items-long (flex_start r.0.slot) r.0.slot.blocks, ap length r.3.blocks)
@@ -77,11 +77,11 @@ returns g c = λ t e.
     let seen = seen-same (IsTaskSeen c.args.task.now) d.tasks i r.0 t r.1 e r.2 in
     let p = seen-same (λ u. IsSlotPlan x u c.args.plan.now) d.tasks i r.0 t r.1 e r.3 in
     let f = slot_frame x t in
-    let heap = at-some (heap_seen (heap_of.Task i) d) _ t.slot.heap (ap (option_map (λ (u : Task). u.slot.heap)) e) c.put_heap_cards.ensures in
+    let heap = at-some (heap_seen (heap_of.Task i) d) _ t.slot.heap (ap (option_map (λ (u : Task). u.slot.heap)) e) c.show_heap_cards.ensures in
     text_then (g.P.Pen.offered c.args.pen.now) _ _ (offered_as _ (ap (λ z. slot_lenses z t.slot) p.frame) (c.print_lenses.ensures t e))
     (text_then (g.P.Pen.offered c.print_lenses.new.pen) _ _ (offered_as _ (ap (λ n. cards_above n (flex_cards x t))
-    (c.saturating_sub.ensures ∙ ap (λ n. n - 16) (c.top.ensures.value ∙ ap rows_top p.frame))) (c.put_flex_cards.ensures t e))
-    (text_then (g.P.Pen.offered c.put_flex_cards.new.pen) _ _ (offered_as _ (ap₂ rows_text p.frame p.plot) c.print_rows.ensures)
+    (c.saturating_sub.ensures ∙ ap (λ n. n - 16) (c.top.ensures.value ∙ ap rows_top p.frame))) (c.show_flex_cards.ensures t e))
+    (text_then (g.P.Pen.offered c.show_flex_cards.new.pen) _ _ (offered_as _ (ap₂ rows_text p.frame p.plot) c.print_rows.ensures)
     (text_then (g.P.Pen.offered c.print_rows.new.pen) _ _
     (offered_as _ (ap₂ ticks_text (c.row_y.ensures.value ∙ ap (λ z. row_y z 0) p.frame) p.blocks) c.print_ticks.ensures)
     (text_then (g.P.Pen.offered c.print_ticks.new.pen) _ _ (offered_as _ (parts-same x seen.handle p.frame p.blocks

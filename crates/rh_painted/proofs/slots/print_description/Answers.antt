@@ -9,7 +9,7 @@ use Rattle.rh_sheet.specs.SheetCards.{cards_sentences}
 use Rattle.rh_sight.specs.declared.sight.HeapOf.TheVariants as heap_of
 use Rattle.rh_sight.specs.declared.sight.PagesOf.TheVariants as pages
 use Rattle.rh_drawn.specs.Bands.{card_of_task}
-use Rattle.rh_painted.specs.PaintedBands.{band_text}
+use Rattle.rh_painted.specs.Inner.BandTexts.{band_text}
 use Rattle.rh_painted.specs.declared.bands.Form.TheVariants.{Told}
 use Rattle.rh_painted.proofs.BandLemmas.{told-all}
 use Rattle.rh_drawn.proofs.TextPuts.{text_then}
@@ -36,8 +36,8 @@ put_pages-requires g c =
     (seen-slot c.spelled.ensures i r.0 r.1) c.requires.step.all in
     omega (arith, few, ap (λ (z : Plot). length z.pages) r.3.plot)
 
-pub put_flex_cards-requires-clause-few : goal.put_flex_cards-requires-clause-few
-put_flex_cards-requires-clause-few g c =
+pub show_flex_cards-requires-clause-few : goal.show_flex_cards-requires-clause-few
+show_flex_cards-requires-clause-few g c =
     let r = c.requires.task in
     let few = few-blocks r.0.slot.blocks (task-slot c.spelled.ensures c.args.plan.now.i r.0 r.1).anchors in
     omega (arith, few, items-long (flex_start r.0.slot) r.0.slot.blocks, ap length r.3.blocks)
@@ -61,5 +61,5 @@ returns g c = λ t e.
     (text_then (g.P.Pen.offered c.put_pages.new.pen) _ _ (offered_as _ (ap escape words) c.put_escaped.ensures)
     (text_then (g.P.Pen.offered c.put_escaped.new.pen) _ _ (offered_as _ (ap (λ o. band_text Told (shown_cards
     (cards_from (card_of_task x o) (heap_start + first_place) t.slot.heap.segments))) e ∙ told-all 0 (shown_cards (heap_cards x t))) (at-some (heap_seen
-    (heap_of.Task i) d) _ t.slot.heap (ap (option_map (λ (u : Task). u.slot.heap)) e) c.put_heap_cards.ensures))
-    (offered_as _ (told-all 0 (shown_cards (flex_cards x t))) (c.put_flex_cards.ensures t e)))))
+    (heap_of.Task i) d) _ t.slot.heap (ap (option_map (λ (u : Task). u.slot.heap)) e) c.show_heap_cards.ensures))
+    (offered_as _ (told-all 0 (shown_cards (flex_cards x t))) (c.show_flex_cards.ensures t e)))))
