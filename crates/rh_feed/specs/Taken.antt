@@ -1,61 +1,66 @@
 -- What was done with the lines of a script, one after the other.
-use Rattle.std.specs.Prelude.{◌≡◌, ◌⊎◌, ℕ, List, [], ◌∷◌, ◌++◌}
+use Rattle.std.specs.Prelude.{◌≡◌, ◌⊎◌, ℕ, List, [], ◌∷◌, ◌++◌, map}
 use Rattle.std.specs.Io.KnownBytes.{Consumes, IsAtEnd}
-use Rattle.rh_lines.specs.Flow.{Input, Output}
-use Rattle.rh_feed.specs.Lines.{kept_lines, kept_rest}
+use Rattle.rh_lines.specs.Flow.{Input, Output, Takes, Breaks}
+use Rattle.rh_defs.specs.Script.{ended}
+use Rattle.rh_feed.specs.Lines.{kept, kept_lines, kept_rest}
 
--- what taking one line does: from a taker and what was written, to those behind the line
+-- what taking one line does: from a taker and a line to the taker behind it and the text that is written
 abbrev pub Step : Type 0 → Type 1
-Step S = S → Output → List ℕ → S → Output → Type 0
+Step S = S → List ℕ → S → List ℕ → Type 0
 
--- what was written of a line where the writer failed
-abbrev pub Break : Type 0 → Type 1
-Break S = S → Output → List ℕ → Output → Type 0
+-- such a text was written behind the others
+pub record Gives (is : List ℕ → Type 0) (old new : List ℕ) : Type 0 where
+  pub text : List ℕ
+  pub told : is text
+  pub offered : new ≡ old ++ text
 
--- lines were taken, one after the other
-abbrev pub TookAll : {S : Type 0} → Step S → S → Output → List (List ℕ) → S → Output → Type 0
-TookAll step s o [] t p = (s ≡ t) × (o ≡ p)
-TookAll {S} step s o (l ∷ ls) t p = (u : S) × (q : Output) × step s o l u q × TookAll step u q ls t p
+-- lines were taken, one after the other, and this is their text
+abbrev pub TookAll : {S : Type 0} → Step S → S → List (List ℕ) → S → List ℕ → Type 0
+TookAll step s [] t text = (s ≡ t) × (text ≡ [])
+TookAll {S} step s (l ∷ ls) t text =
+    (u : S) × (a : List ℕ) × (b : List ℕ) × step s l u a × TookAll step u ls t b × (text ≡ a ++ b)
 
--- some lines were taken, and at the next one the writer failed
-pub record BrokeAmong {S : Type 0} (step : Step S) (broke : Break S) (s : S) (o : Output) (lines : List (List ℕ)) (p : Output) : Type 0 where
-  pub before : List (List ℕ)
-  pub line : List ℕ
+-- of the lines that end in these bytes some were taken, from the first on
+pub record TookFront {S : Type 0} (step : Step S) (s : S) (bytes : List ℕ) (text : List ℕ) : Type 0 where
+  pub front : List (List ℕ)
   pub behind : List (List ℕ)
-  pub whole : lines ≡ before ++ line ∷ behind
+  pub whole : ended bytes ≡ front ++ behind
   pub taker : S
-  pub written : Output
-  pub taken : TookAll step s o before taker written
-  pub broken : broke taker written line p
+  pub taken : TookAll step s (map kept front) taker text
 
--- all lines were taken, and the writer failed at what stands behind the last line feed
-pub record BrokeAtRest {S : Type 0} (step : Step S) (broke : Break S) (s : S) (o : Output) (lines : List (List ℕ)) (rest : List ℕ) (p : Output) : Type 0 where
+-- all lines of these bytes were taken, and what stands behind the last line feed
+pub record TookScript {S : Type 0} (step last : Step S) (s : S) (bytes : List ℕ) (t : S) (text : List ℕ) : Type 0 where
   pub taker : S
-  pub written : Output
-  pub taken : TookAll step s o lines taker written
-  pub broken : broke taker written rest p
+  pub front : List ℕ
+  pub rest : List ℕ
+  pub taken : TookAll step s (kept_lines bytes) taker front
+  pub ended : last taker (kept_rest bytes) t rest
+  pub whole : text ≡ front ++ rest
 
--- the complete lines that were read have been taken
+-- the complete lines that were read have been taken, and their text was written
 pub record Fed {S : Type 0} (step : Step S) (before after : Input) (s t : S) (old new : Output) : Type 0 where
   pub bytes : List ℕ
   pub read : Consumes before.left after.left bytes
-  pub taken : TookAll step s old (kept_lines bytes) t new
+  pub text : List ℕ
+  pub taken : TookAll step s (kept_lines bytes) t text
+  pub written : Takes old new text
 
--- the script was read to its end, each line was taken, and at last what stands behind the last line feed
+-- the script was read to its end, all of it was taken, and its text was written
 pub record FedAll {S : Type 0} (step last : Step S) (before after : Input) (s t : S) (old new : Output) : Type 0 where
   pub bytes : List ℕ
   pub read : Consumes before.left after.left bytes
   pub at_end : IsAtEnd after.left
   pub well : after.failed ≡ before.failed
-  pub taker : S
-  pub written : Output
-  pub taken : TookAll step s old (kept_lines bytes) taker written
-  pub ended : last taker written (kept_rest bytes) t new
+  pub text : List ℕ
+  pub taken : TookScript step last s bytes t text
+  pub written : Takes old new text
 
--- the writer failed at one of the lines that were read, or at what stands behind the last line feed
-pub record FedUntil {S : Type 0} (step : Step S) (broke broke_rest : Break S) (before after : Input) (s : S) (old new : Output) : Type 0 where
+-- some of the lines that were read were taken, from the first on, or at the script's end all of it; the writer failed,
+-- and took a front of their text
+pub record FedUntil {S : Type 0} (step last : Step S) (before after : Input) (s : S) (old new : Output) : Type 0 where
   pub bytes : List ℕ
   pub read : Consumes before.left after.left bytes
-  pub broken :
-      BrokeAmong step broke s old (kept_lines bytes) new
-      ⊎ (IsAtEnd after.left × BrokeAtRest step broke_rest s old (kept_lines bytes) (kept_rest bytes) new)
+  pub text : List ℕ
+  pub taken : TookFront step s bytes text ⊎ (IsAtEnd after.left × (t : S) × TookScript step last s bytes t text)
+  pub broken : Breaks old new text

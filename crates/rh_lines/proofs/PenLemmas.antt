@@ -58,6 +58,22 @@ behind_none f front back bytes front' back' n e none a b =
     ∙ (append_assoc front (take n bytes) (drop n bytes) ∙ (ap (λ z. front ++ z) (take-append-drop n bytes)
     ∙ ap (λ z. z ++ bytes) (sym (ap (λ z. front ++ z) empty ∙ append-nil front)))))
 
+-- where nothing is held
+pub unheld : (text room : List ℕ) (n : ℕ) → n ≡ 0 → text ++ take n room ≡ text
+unheld text room n e = ap (λ k. text ++ take k room) e ∙ append-nil text
+
+-- a text behind what tells a pen from others, and more of it
+pub coded_more : (name : ℕ) (head old new bytes : List ℕ) → new ≡ old ++ bytes
+    → name ∷ length head ∷ (head ++ new) ≡ (name ∷ length head ∷ (head ++ old)) ++ bytes
+coded_more name head old new bytes e =
+    ap (λ l. name ∷ length head ∷ (head ++ l)) e ∙ ap (λ l. name ∷ length head ∷ l) (sym (append_assoc head old bytes))
+
+-- what is behind the text without what is held
+pub offered_more : (front back room bytes front' back' : List ℕ) (n : ℕ) → n ≡ 0 → front' ++ back' ≡ (front ++ back) ++ bytes
+    → (front' ++ back') ++ take n room ≡ ((front ++ back) ++ take n room) ++ bytes
+offered_more front back room bytes front' back' n e more =
+    unheld (front' ++ back') room n e ∙ (more ∙ ap (λ z. z ++ bytes) (sym (unheld (front ++ back) room n e)))
+
 -- the output that a list tells of
 decode : List ℕ → Output
 decode (f ∷ c ∷ n ∷ t ∷ bytes) = record {
@@ -112,10 +128,15 @@ wrote old new text e =
     let w = wrote_lists old.writer.ghost_name new.writer.ghost_name old.begun.output new.begun.output (text_of old) (text_of new) text e in
     record { same_reference = w.0; begun = w.1.0; text_is = w.1.1 }
 
+-- what holds of all that was written with a new pen holds of this text
+pub told_as : {W : Type 0} {S : Ghosts W} (P : Output → List ℕ → Type 0) (old new : WriterPen W S) (first : Output) (text : List ℕ)
+    → offered_of new ≡ offered_of old ++ text → begun_of old ≡ first → text_of old ≡ [] → P (begun_of new) (text_of new) → P first text
+told_as P old new first text e begun none p =
+    let w = wrote old new text e in
+    subst (λ (o : Output). P o text) (w.begun ∙ begun)
+    (subst (λ (t : List ℕ). P (begun_of new) t) (w.text_is ∙ ap (λ z. z ++ text) none) p)
+
 -- what a pen is asked at the end, as the writer's own
 pub done_as : {E W : Type 0} {S : Ghosts W} (old new : WriterPen W S) (first last : Output) (text : List ℕ) (r : Result Unit E)
     → offered_of new ≡ offered_of old ++ text → begun_of old ≡ first → text_of old ≡ [] → Puts (begun_of new) last r (text_of new) → Puts first last r text
-done_as old new first last text r e begun none p =
-    let w = wrote old new text e in
-    subst (λ (o : Output). Puts o last r text) (w.begun ∙ begun)
-    (subst (λ (t : List ℕ). Puts (begun_of new) last r t) (w.text_is ∙ ap (λ z. z ++ text) none) p)
+done_as old new first last text r e begun none p = told_as (λ o t. Puts o last r t) old new first text e begun none p

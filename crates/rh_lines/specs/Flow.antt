@@ -61,8 +61,3 @@ pub record Breaks (old new : Output) (bytes : List ℕ) : Type 0 where
 pub record Puts {E : Type 0} (old new : Output) (r : Result Unit E) (bytes : List ℕ) : Type 0 where
   pub ok : OnOk r (Takes old new bytes)
   pub err : OnErr r (Breaks old new bytes)
-
--- what is held: the bytes, and whether some found no room
-pub record Holding : Type 0 where
-  pub bytes : List ℕ
-  pub failed : Bool

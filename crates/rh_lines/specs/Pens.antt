@@ -1,5 +1,5 @@
 -- What a pen has offered to its writer.
-use Rattle.std.specs.Prelude.{ℕ, Bool, true, false, List, [], ◌∷◌, ◌++◌, length, Option, Some, None}
+use Rattle.std.specs.Prelude.{ℕ, Bool, true, false, List, [], ◌∷◌, ◌++◌, length, take, Option, Some, None}
 use Rattle.std.specs.Borrow.{MutBor}
 use Rattle.rh_lines.specs.Flow.{Output}
 use Rattle.rh_lines.specs.declared.sink.Sink.{Ghosts}
@@ -13,9 +13,9 @@ writer_of p = p.writer
 abbrev pub begun_of : {W : Type 0} {S : Ghosts W} → WriterPen W S → Output
 begun_of p = p.begun.output
 
--- all that was offered since
+-- all that was written since: what the writer was offered or should have been, and what is held
 abbrev pub text_of : {W : Type 0} {S : Ghosts W} → WriterPen W S → List ℕ
-text_of p = p.front.bytes ++ p.back.bytes
+text_of p = (p.front.bytes ++ p.back.bytes) ++ take p.held p.room.now
 
 -- whether the writer has failed since
 abbrev pub failed_of : {W : Type 0} {S : Ghosts W} → WriterPen W S → Bool

@@ -8,7 +8,6 @@ mod flagged;
 mod flex;
 mod forms;
 mod heaps;
-mod held;
 mod hexadecimal;
 mod noted_output;
 mod parse;
@@ -24,7 +23,6 @@ mod words;
 mod writer_pen;
 
 pub use flagged::Flagged;
-pub use held::Held;
 pub use parse::{parse_line, read_line};
 pub use pen::Pen;
 pub use print::{add_number, print_fault, print_first_line, put_fault, put_first_line};

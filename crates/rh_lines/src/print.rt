@@ -21,9 +21,9 @@ use rh_defs::{Action, EventCode, LineFault, Numbers, Outcome, Ref, Refusal, Repl
 pub fn print_fault<W: Sink>(fault: &LineFault, writer: &mut W) -> Result<(), WriteFailed>
     ensures { Puts (W.output writer.old) (W.output writer.new) result (fault_text fault.now) }
 {
-    let mut pen = WriterPen::new(writer);
+    let mut pen = WriterPen::new(writer, &mut []);
     put_fault(fault, &mut pen);
-    pen.done()
+    pen.finish()
 }
 
 /// Writes the reply of a bad line, `bad FAULT`.
@@ -51,9 +51,9 @@ pub fn put_fault<P: Pen>(fault: &LineFault, pen: &mut P)
 pub fn print_first_line<W: Sink>(reply: &Reply, writer: &mut W) -> Result<(), WriteFailed>
     ensures { Puts (W.output writer.old) (W.output writer.new) result (first_line reply.now Nothing) }
 {
-    let mut pen = WriterPen::new(writer);
+    let mut pen = WriterPen::new(writer, &mut []);
     put_first_line(reply, &mut pen);
-    pen.done()
+    pen.finish()
 }
 
 /// Writes the first line of a reply, without the bytes that a block shows.

@@ -74,7 +74,7 @@ impl Sink for WholeText<'_> {
 }
 
 /// Puts bytes in place of as many others, from a place on.
-fn put_at(to: &mut [u8], at: usize, bytes: &[u8])
+pub fn put_at(to: &mut [u8], at: usize, bytes: &[u8])
     requires { at + length bytes.now ≤ length to.old }
     ensures front { take (at + length bytes.now) to.new ≡ take at to.old ++ bytes.now }
     ensures rest { drop (at + length bytes.now) to.new ≡ drop (at + length bytes.now) to.old }
