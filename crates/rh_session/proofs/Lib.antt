@@ -1,4 +1,1 @@
-pub mod SessionLemmas
-pub mod HoldLemmas
-pub mod TakeLemmas
 pub mod RunLemmas

@@ -1,68 +1,54 @@
--- A run, read by read.
-use Rattle.std.specs.Prelude.{◌+◌}
-use Rattle.std.proofs.Common.{◌≡◌, ℕ, ◌≤◌, ◌<◌, false, Bool, ◌||◌, not, ◌==◌, List, [], ◌∷◌, ◌++◌, length, take, Option, Some, None, IfErr, IfSome, Result}
-use Rattle.std.proofs.Common.{Ok, Err, append_assoc, append-nil, ◌⊎◌, inl, inr, refl, sym, ◌∙◌, ap, subst, arith, rules}
-use Rattle.std.specs.Io.KnownBytes.{Consumes, Keeps, IsAtEnd}
-use Rattle.rh_defs.specs.Line.{longest_line}
-use Rattle.rh_defs.specs.Desk.{Desk}
-use Rattle.rh_lines.specs.Flow.{Input, Output, Takes, Breaks}
-use Rattle.rh_lines.proofs.FlowLemmas.{takes_none, takes_more, takes_breaks, breaks_before}
-use Rattle.rh_defs.specs.Script.{ended, unended, script_text, rest_text, is_bad}
-use Rattle.rh_session.specs.declared.session.Session.{Session}
-use Rattle.rh_session.specs.SessionKept.{IsState}
-use Rattle.rh_feed.specs.Lines.{kept}
-use Rattle.rh_feed.proofs.FeedLemmas.{Consumes-keeps, Consumes-more, Consumes-none, keeps_same}
-use Rattle.rh_session.specs.Session.{State, begin, state_of, answers_of}
+-- A run of a script, from the lines that were taken.
+use Rattle.std.proofs.Common.{◌≡◌, ℕ, ◌+◌, ◌≤◌, ◌<◌, Bool, true, false, ◌||◌, not, ◌==◌, List, [], ◌∷◌, ◌++◌, length, map, take, Option, Some, None, IfErr}
+use Rattle.std.proofs.Common.{IfSome, IsErrOf, Result, Ok, Err, append_assoc, ◌⊎◌, inl, inr, refl, sym, ◌∙◌, ap, ap₂, append-nil, subst, arith, rules}
+use Rattle.std.specs.Io.KnownBytes.{Consumes, IsAtEnd}
 use Rattle.std.specs.List.{list_any}
-use borrow.Author.Tests.{tests}
+use Rattle.std.specs.Result.{is_err}
 use Rattle.std.proofs.lemmas.List.{take_all}
+use borrow.Author.Tests.{tests}
+use Rattle.rh_defs.specs.declared.command.Command.{Command}
+use Rattle.rh_defs.specs.Line.{Meaning, line_means, longest_line}
+use Rattle.rh_defs.specs.Desk.{Desk}
+use Rattle.rh_defs.specs.Script.{ended, ended_text, has_bad_line, is_bad, line_desk, lines_desk, lines_text, meaning_desk, meaning_text, rest_text, script_text}
+use Rattle.rh_defs.specs.Script.{unended}
 use Rattle.rh_defs.specs.Text.{fault_text}
 use Rattle.rh_defs.specs.declared.fault.LineFault.TheVariants.{TooLong}
+use Rattle.rh_lines.specs.Flow.{Input, Output, Breaks, Takes}
+use Rattle.rh_lines.proofs.FlowLemmas.{breaks_before}
+use Rattle.rh_feed.specs.declared.fault.FeedFault.{FeedFault}
+use Rattle.rh_feed.specs.declared.fault.FeedFault.TheVariants as feed
+use Rattle.rh_feed.specs.Lines.{kept}
+use Rattle.rh_feed.specs.Taken.{Fed, FedAll, FedUntil, TookAll, TookFront, TookScript}
+use Rattle.rh_feed.proofs.LineLemmas.{ended-append, is_above, kept_means, split_at, still_long}
+use Rattle.rh_session.specs.Answers.{AnsweredLine, AnsweredMeaning, AnsweredRest}
+use Rattle.rh_session.specs.Outcome.{Answered, BrokeOff, Finished, run_fault_of, status_of}
+use Rattle.rh_session.specs.declared.session.Session.{Session}
+use Rattle.rh_session.specs.declared.status.RunFault.{RunFault}
+use Rattle.rh_session.specs.declared.status.RunFault.TheVariants as run
 use Rattle.rh_session.specs.declared.status.Status.{Status}
-use Rattle.rh_session.specs.Outcome.{Answered, Finished, BrokeOff, status_of}
-use Rattle.rh_feed.proofs.LineLemmas.{is_above, split_at, still_long}
-use Rattle.rh_session.proofs.SessionLemmas.{reached, state_of-append, answers_of-append}
 
 -- what holds anyway holds where a result is an error
 pub if_err : {A E : Type 0} {P : E → Type 0} (r : Result A E) → ((e : E) → P e) → IfErr r P
 if_err (Ok x) h = tt
 if_err (Err e) h = h e
 
--- what was read so far has been run
-pub record Going {D : Type 0} (spells : D → Desk → Type 0) (d : Desk) (before now : Input) (old new : Output) (session : Session D) : Type 0 where
-  pub bytes : List ℕ
-  pub read : Consumes before.left now.left bytes
-  pub state_is : IsState spells session (state_of (begin d) bytes)
-  pub written : Takes old new (answers_of (begin d) bytes)
+pub or_false : (b : Bool) → (b || false) ≡ b
+or_false true = refl
+or_false false = refl
 
-pub going_starts : {D : Type 0} {spells : D → Desk → Type 0} {session : Session D} (d : Desk) (i : Input) (o : Output) → IsState spells session (begin d)
-    → Going spells d i i o o session
-going_starts d i o h = record { bytes = []; read = Consumes-none i.left; state_is = h; written = takes_none o }
+pub or_true : (b : Bool) → (b || true) ≡ true
+or_true true = refl
+or_true false = refl
 
--- one more read
-pub going_on : {D : Type 0} {spells : D → Desk → Type 0} {session next : Session D} {d : Desk} {before now : Input} {old new : Output} (after : Input)
-    (last : Output) (more : List ℕ) → Going spells d before now old new session → Consumes now.left after.left more
-    → ((s : State) → IsState spells session s → IsState spells next (state_of s more))
-    → ((s : State) → IsState spells session s → Takes new last (answers_of s more)) → Going spells d before after old last next
-going_on {D} {spells} {session} {next} {d} {before} {now} {old} {new} after last more g c s t =
-    let P : List ℕ → Type 0 = λ z. Takes old last z in
-    let Q : State → Type 0 = λ z. IsState spells next z in
-    record {
-      bytes = g.bytes ++ more;
-      read = Consumes-more before.left now.left after.left g.bytes more g.read c;
-      state_is = subst Q (sym (state_of-append (begin d) g.bytes more)) (s (state_of (begin d) g.bytes) g.state_is);
-      written = subst P (sym (answers_of-append (begin d) g.bytes more)) (takes_more g.written (t (state_of (begin d) g.bytes) g.state_is));
-    }
+either_first : (a b c : Bool) → ((a || b) || c) ≡ (a || (b || c))
+either_first true b c = refl
+either_first false b c = refl
 
--- a read failed, or there were too many
-pub answered : {D : Type 0} {spells : D → Desk → Type 0} {session : Session D} {d : Desk} {before now : Input} {old new : Output} (after : Input)
-    → Going spells d before now old new session → Keeps now.left after.left → Answered d before after old new
-answered {d = d} {before = before} {now = now} {old = old} {new = new} after g k =
-    let P : List ℕ → Type 0 = λ z. Takes old new z in record {
-      bytes = g.bytes;
-      read = Consumes-keeps before.left now.left after.left g.bytes g.read k;
-      written = subst P ((reached d g.bytes).text) g.written;
-    }
+-- a session spells what its desktop did
+pub started : {D : Type 0} (spells : D → Desk → Type 0) (d : Desk) {a b : D} → a ≡ b → spells b d → spells a d
+started spells d is h = subst (λ z. spells z d) (sym is) h
+
+-- ---- what is kept of the rest of a script
 
 long_text : (xs : List ℕ) → longest_line < length xs → rest_text xs ≡ fault_text TooLong
 long_text [] h = absurd (omega arith)
@@ -73,7 +59,7 @@ unfolding kept
 rest_kept_at rest (inl h) = ap rest_text (take_all (longest_line + 1) rest (omega arith))
 rest_kept_at rest (inr h) = long_text (take (longest_line + 1) rest) (still_long longest_line (longest_line + 1) rest (omega arith) h) ∙ sym (long_text rest h)
 
-rest_kept : (rest : List ℕ) → rest_text (kept rest) ≡ rest_text rest
+pub rest_kept : (rest : List ℕ) → rest_text (kept rest) ≡ rest_text rest
 rest_kept rest = rest_kept_at rest (split_at (length rest))
 
 not_none : (n : ℕ) → 0 < n → (n == 0) ≡ false
@@ -86,87 +72,142 @@ nothing_kept_at rest (inr h) =
     not_none (length (take (longest_line + 1) rest)) (omega (arith, still_long longest_line (longest_line + 1) rest (omega arith) h))
     ∙ sym (not_none (length rest) (omega arith))
 
-nothing_kept : (rest : List ℕ) → (length (kept rest) == 0) ≡ (length rest == 0)
+pub nothing_kept : (rest : List ℕ) → (length (kept rest) == 0) ≡ (length rest == 0)
 nothing_kept rest = nothing_kept_at rest (split_at (length rest))
 
--- the reader came to its end
-pub finished : {D : Type 0} {spells : D → Desk → Type 0} {session : Session D} {d : Desk} {before now : Input} {old new : Output} (after : Input)
-    (last : Output) (bad : Bool) (status : Status) → Going spells d before now old new session → Consumes now.left after.left [] → IsAtEnd after.left
-    → after.failed ≡ before.failed → ((s : State) → IsState spells session s → Takes new last (rest_text s.line))
-    → ((s : State) → IsState spells session s → bad ≡ (s.bad || not (length s.line == 0))) → status ≡ status_of bad → Finished d before after old last status
-finished {d = d} {before = before} {now = now} {old = old} {new = new} after last bad status g c e f t b s =
-    let r = reached d g.bytes in
-    let state : State = state_of (begin d) g.bytes in
-    let P : List ℕ → Type 0 = λ z. Takes old last z in
-    let Q : List ℕ → Type 0 = λ z. Consumes before.left after.left z in
-    let line : state.line ≡ kept (unended g.bytes) = ap (λ z. z.line) r.state in
-    let said : state.bad ≡ list_any is_bad (ended g.bytes) = ap (λ z. z.bad) r.state in
+-- no rest
+pub rest_none : (rest : List ℕ) → true ≡ (length rest == 0) → rest_text rest ≡ []
+rest_none [] h = refl
+rest_none (x ∷ xs) h = absurd (let no : true ≡ false = h ∙ not_none (length (x ∷ xs)) (omega arith) in cc)
+
+-- ---- one line
+
+-- what was answered by what a line means was answered to what is kept of it
+pub line_answered : {D : Type 0} {spells : D → Desk → Type 0} {s t : Session D} {text : List ℕ} (line : List ℕ) (meaning : Meaning (Option Command))
+    → meaning ≡ line_means line → AnsweredMeaning spells s meaning t text → AnsweredLine spells s (kept line) t text
+line_answered {spells = spells} {s = s} {t = t} {text = text} line meaning means answered =
+    subst (λ (z : Meaning (Option Command)). AnsweredMeaning spells s z t text) (means ∙ sym (kept_means line)) answered
+
+-- ---- lines one after the other
+
+-- a session that has answered these lines from a desk on
+record AllAnswered {D : Type 0} (spells : D → Desk → Type 0) (d : Desk) (s : Session D) (lines : List (List ℕ)) (t : Session D) (text : List ℕ) : Type 0 where
+  desk : spells t.desktop (lines_desk d lines)
+  answers : text ≡ lines_text d lines
+  bad : t.has_bad_line ≡ (s.has_bad_line || list_any is_bad lines)
+
+all_answered : {D : Type 0} {spells : D → Desk → Type 0} {s t : Session D} {text : List ℕ} (lines : List (List ℕ)) (d : Desk) → spells s.desktop d
+    → TookAll (AnsweredLine spells) s (map kept lines) t text → AllAnswered spells d s lines t text
+all_answered {D} {spells} {s} {t} {text} [] d h (same, none) = record {
+  desk = subst (λ (z : Session D). spells z.desktop d) same h;
+  answers = none;
+  bad = ap (λ (z : Session D). z.has_bad_line) (sym same) ∙ sym (or_false s.has_bad_line);
+}
+all_answered {D} {spells} {s} {t} {text} (l ∷ ls) d h (u, a, b, one, rest, is) =
+    let means = kept_means l in
+    let next : spells u.desktop (line_desk d l) = subst (λ m. spells u.desktop (meaning_desk d m)) means (one.desk d h) in
+    let all = all_answered ls (line_desk d l) next rest in
     record {
-      bytes = g.bytes;
-      read = subst Q (append-nil g.bytes) (Consumes-more before.left now.left after.left g.bytes [] g.read c);
-      at_end = e;
-      well = f;
-      written = subst P (ap (λ z. answers_of (begin d) g.bytes ++ rest_text z) line
-          ∙ (ap (λ z. answers_of (begin d) g.bytes ++ z) (rest_kept (unended g.bytes)) ∙ ap (λ z. z ++ rest_text (unended g.bytes)) r.text)) (takes_more
-          g.written (t state g.state_is));
-      status_is = s ∙ ap status_of (b state g.state_is ∙ (ap (λ z. z || not (length state.line == 0)) said
-          ∙ ap (λ z. list_any is_bad (ended g.bytes) || not z) (ap (λ z. length z == 0) line ∙ nothing_kept (unended g.bytes))));
+      desk = all.desk;
+      answers = is ∙ ap₂ (λ x y. x ++ y) (one.answer d h ∙ ap (meaning_text d) means) all.answers;
+      bad = all.bad ∙ (ap (λ z. z || list_any is_bad ls) (one.bad ∙ ap (λ m. s.has_bad_line || is_err m) means)
+          ∙ either_first s.has_bad_line (is_bad l) (list_any is_bad ls));
     }
 
-broke_known : (d : Desk) {old new last : Output} {state : State} (bytes more rest script : List ℕ) → state ≡ state_of (begin d) bytes
-    → Takes old new (answers_of (begin d) bytes) → Breaks new last (answers_of state more) → script ≡ bytes ++ (more ++ rest)
-    → Breaks old last (script_text d script)
-broke_known d {old} {new} {last} {state} bytes more rest script s t w e =
-    let P : List ℕ → Type 0 = λ z. Breaks old last z in
-    let later = answers_of (state_of (state_of (begin d) bytes) more) rest in
-    let parts : answers_of (begin d) script ≡ (answers_of (begin d) bytes ++ answers_of state more) ++ later =
-    ap (answers_of (begin d)) e ∙ (answers_of-append (begin d) bytes (more ++ rest)
-    ∙ (ap (λ z. answers_of (begin d) bytes ++ z) (answers_of-append (state_of (begin d) bytes) more rest)
-    ∙ (sym (append_assoc (answers_of (begin d) bytes) (answers_of (state_of (begin d) bytes) more) later)
-    ∙ ap (λ z. (answers_of (begin d) bytes ++ answers_of z more) ++ later) (sym s)))) in
-    subst P (ap (λ z. z ++ rest_text (unended script)) (sym parts ∙ (reached d script).text))
-    (breaks_before (rest_text (unended script)) (breaks_before later (takes_breaks t w)))
+lines_text-append : (d : Desk) (xs ys : List (List ℕ)) → lines_text d (xs ++ ys) ≡ lines_text d xs ++ lines_text (lines_desk d xs) ys
+lines_text-append d [] ys = refl
+lines_text-append d (x ∷ xs) ys =
+    ap (λ z. meaning_text d (line_means x) ++ z) (lines_text-append (line_desk d x) xs ys)
+    ∙ sym (append_assoc (meaning_text d (line_means x)) (lines_text (line_desk d x) xs) (lines_text (lines_desk (line_desk d x) xs) ys))
 
-broke_left : (d : Desk) {old new last : Output} {state : State} (a b c : Option (List ℕ)) (bytes more : List ℕ) → state ≡ state_of (begin d) bytes
-    → Takes old new (answers_of (begin d) bytes) → Breaks new last (answers_of state more) → Consumes a b bytes → Consumes b c more
-    → IfSome a (λ script. Breaks old last (script_text d script))
-broke_left d None b c bytes more s t w p q = tt
-broke_left d (Some a) None c bytes more s t w p q = absurd p
-broke_left d (Some a) (Some b) None bytes more s t w p q = absurd q
-broke_left d (Some a) (Some b) (Some c) bytes more s t w p q = broke_known d bytes more c a s t w (p ∙ ap (λ z. bytes ++ z) q)
+-- the whole script was answered
+record ScriptAnswered {D : Type 0} (d : Desk) (bytes : List ℕ) (t : Session D) (text : List ℕ) : Type 0 where
+  answers : text ≡ script_text d bytes
+  bad : t.has_bad_line ≡ has_bad_line bytes
 
--- the writer failed while lines were answered
-pub broke : {D : Type 0} {spells : D → Desk → Type 0} {session : Session D} {d : Desk} {before now : Input} {old new : Output} (after : Input)
-    (last : Output) (more : List ℕ) → Going spells d before now old new session → Consumes now.left after.left more
-    → ((s : State) → IsState spells session s → Breaks new last (answers_of s more)) → BrokeOff d before old last
-broke {d = d} {before = before} {now = now} after last more g c w = record {
-  failed = (w (state_of (begin d) g.bytes) g.state_is).failed;
-  written = broke_left d before.left now.left after.left g.bytes more refl g.written (w (state_of (begin d) g.bytes) g.state_is) g.read c;
-}
+module _ {D : Type 0} {spells : D → Desk → Type 0} {s : Session D} (d : Desk) (h : spells s.desktop d) (well : s.has_bad_line ≡ false) where
+  script_answered : {t : Session D} {text : List ℕ} (bytes : List ℕ) → TookScript (AnsweredLine spells) AnsweredRest s bytes t text
+      → ScriptAnswered d bytes t text
+  script_answered bytes w =
+      let all = all_answered (ended bytes) d h w.taken in
+      record {
+        answers = w.whole ∙ ap₂ (λ x y. x ++ y) all.answers (w.ended.answer ∙ rest_kept (unended bytes));
+        bad = w.ended.bad ∙ ap₂ (λ x y. x || not y) (all.bad ∙ ap (λ z. z || list_any is_bad (ended bytes)) well) (nothing_kept (unended bytes));
+      }
 
-pub answered_here : {D : Type 0} {spells : D → Desk → Type 0} {session : Session D} {d : Desk} {before now : Input} {old new : Output}
-    → Going spells d before now old new session → Answered d before now old new
-answered_here {now = now} g = answered now g (keeps_same now.left)
+  -- ---- how a run ends
 
-broke_end : (d : Desk) {old new last : Output} {state : State} (a b c : Option (List ℕ)) (bytes : List ℕ) → state ≡ state_of (begin d) bytes
-    → Takes old new (answers_of (begin d) bytes) → Breaks new last (rest_text state.line) → Consumes a b bytes → Consumes b c [] → IsAtEnd c
-    → IfSome a (λ script. Breaks old last (script_text d script))
-broke_end d None b c bytes s t w p q e = tt
-broke_end d (Some a) None c bytes s t w p q e = absurd p
-broke_end d (Some a) (Some b) None bytes s t w p q e = absurd q
-broke_end d {old} {new} {last} {state} (Some a) (Some b) (Some c) bytes s t w p q e =
-    let r = reached d bytes in
-    let P : List ℕ → Type 0 = λ z. Breaks old last z in
-    let all : bytes ≡ a = sym (append-nil bytes) ∙ (ap (λ z. bytes ++ z) (sym (q ∙ e)) ∙ sym p) in
-    let line : state.line ≡ kept (unended bytes) = ap (λ z. z.line) (s ∙ r.state) in
-    subst P (ap (λ z. answers_of (begin d) bytes ++ rest_text z) line ∙ (ap (λ z. answers_of (begin d) bytes ++ z) (rest_kept (unended bytes))
-    ∙ (ap (λ z. z ++ rest_text (unended bytes)) r.text ∙ ap (script_text d) all))) (takes_breaks t w)
+  -- the reader came to its end
+  pub finished : {t : Session D} {before after : Input} {old new : Output} (status : Status)
+      → FedAll (AnsweredLine spells) AnsweredRest before after s t old new → status ≡ status_of t.has_bad_line → Finished d before after old new status
+  finished {old = old} {new = new} status fed is =
+      let all = script_answered fed.bytes fed.taken in
+      record {
+        bytes = fed.bytes;
+        read = fed.read;
+        at_end = fed.at_end;
+        well = fed.well;
+        written = subst (λ (z : List ℕ). Takes old new z) all.answers fed.written;
+        status_is = is ∙ ap status_of all.bad;
+      }
 
--- the writer failed while the cut line was answered
-pub broke_last : {D : Type 0} {spells : D → Desk → Type 0} {session : Session D} {d : Desk} {before now : Input} {old new : Output} (after : Input)
-    (last : Output) → Going spells d before now old new session → Consumes now.left after.left [] → IsAtEnd after.left
-    → ((s : State) → IsState spells session s → Breaks new last (rest_text s.line)) → BrokeOff d before old last
-broke_last {d = d} {before = before} {now = now} after last g c e w = record {
-  failed = (w (state_of (begin d) g.bytes) g.state_is).failed;
-  written = broke_end d before.left now.left after.left g.bytes refl g.written (w (state_of (begin d) g.bytes) g.state_is) g.read c e;
-}
+  -- a read failed, or there were too many
+  pub answered : {t : Session D} {before after : Input} {old new : Output} → Fed (AnsweredLine spells) before after s t old new
+      → Answered d before after old new
+  answered {old = old} {new = new} fed = record {
+    bytes = fed.bytes;
+    read = fed.read;
+    written = subst (λ (z : List ℕ). Takes old new z) (all_answered (ended fed.bytes) d h fed.taken).answers fed.written;
+  }
+
+  -- the text of some lines is a front of the script's
+  front_broke : {old new : Output} {text : List ℕ} (bytes rest script : List ℕ) → TookFront (AnsweredLine spells) s bytes text → Breaks old new text
+      → script ≡ bytes ++ rest → Breaks old new (script_text d script)
+  front_broke {old} {new} bytes rest script w broken e =
+      let more = w.behind ++ ended (unended bytes ++ rest) in
+      let lines : ended script ≡ w.front ++ more =
+      ap ended e ∙ (ended-append bytes rest ∙ (ap (λ z. z ++ ended (unended bytes ++ rest)) w.whole
+      ∙ append_assoc w.front w.behind (ended (unended bytes ++ rest)))) in
+      let later = lines_text (lines_desk d w.front) more in
+      let here = subst (λ (z : List ℕ). Breaks old new z) (all_answered w.front d h w.taken).answers broken in
+      subst (λ (z : List ℕ). Breaks old new (z ++ rest_text (unended script))) (sym (ap (lines_text d) lines ∙ lines_text-append d w.front more))
+      (breaks_before (rest_text (unended script)) (breaks_before later here))
+
+  broke_left : (before after : Option (List ℕ)) {old new : Output} {text : List ℕ} (bytes : List ℕ) → Consumes before after bytes
+      → TookFront (AnsweredLine spells) s bytes text
+      ⊎ (IsAtEnd after × (t : Session D) × TookScript (AnsweredLine spells) AnsweredRest s bytes t text)
+      → Breaks old new text → IfSome before (λ script. Breaks old new (script_text d script))
+  broke_left None after bytes c w broken = tt
+  broke_left (Some a) None bytes c w broken = absurd c
+  broke_left (Some a) (Some b) bytes c (inl w) broken = front_broke bytes b a w broken c
+  broke_left (Some a) (Some b) {old} {new} bytes c (inr (e, t, w)) broken =
+      let all : bytes ≡ a = sym (append-nil bytes) ∙ (ap (λ z. bytes ++ z) (sym e) ∙ sym c) in
+      subst (λ (z : List ℕ). Breaks old new (script_text d z)) all
+      (subst (λ (z : List ℕ). Breaks old new z) (script_answered bytes w).answers broken)
+
+  -- the writer failed
+  pub broke : {before after : Input} {old new : Output} → FedUntil (AnsweredLine spells) AnsweredRest before after s old new → BrokeOff d before old new
+  broke {before = before} {after = after} fed =
+      record { failed = fed.broken.failed; written = broke_left before.left after.left fed.bytes fed.read fed.taken fed.broken }
+
+-- ---- why a run ended early
+
+-- the fault of the lines, by that of the run
+feeding_of : RunFault → FeedFault
+feeding_of run.NoMemory = feed.TooLong
+feeding_of run.ReadFailed = feed.ReadFailed
+feeding_of run.WriteFailed = feed.WriteFailed
+feeding_of run.TooLong = feed.TooLong
+
+there_and_back : (f : FeedFault) → feeding_of (run_fault_of f) ≡ f
+unfolding feeding_of
+there_and_back feed.ReadFailed = refl
+there_and_back feed.WriteFailed = refl
+there_and_back feed.TooLong = refl
+
+-- no two faults of the lines give one fault of a run
+pub same_fault : {A B : Type 0} {r : RunFault} {f : FeedFault} (g : FeedFault) → r ≡ run_fault_of f → IsErrOf {T = A} (Err r) (run_fault_of g)
+    → IsErrOf {T = B} (Err f) g
+same_fault {r = r} {f = f} g is e =
+    let same : run_fault_of f ≡ run_fault_of g = cc in
+    ap Err (sym (there_and_back f) ∙ (ap feeding_of same ∙ there_and_back g))

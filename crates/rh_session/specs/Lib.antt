@@ -1,6 +1,2 @@
-pub mod Holding
-pub mod Inner
+pub mod Answers
 pub mod Outcome
-pub mod Session
-pub mod SessionAnswer
-pub mod SessionKept

@@ -6,10 +6,10 @@ ghost use Rattle.rh_defs.specs.Questions.{asked};
 ghost use Rattle.rh_defs.specs.Range.{in_range};
 ghost use Rattle.rh_defs.specs.Commands.{step};
 ghost use Rattle.rh_defs.specs.Text.{answer_text};
-ghost use Rattle.rh_lines.specs.Flow.{Puts};
+ghost use Rattle.rh_feed.specs.Taken.{Gives};
 
 use rh_defs::{Command, Question, Reply};
-use rh_lines::{Sink, WriteFailed};
+use rh_lines::Pen;
 
 /// What applies commands and answers questions.
 pub trait Desktop: Drop {
@@ -22,9 +22,8 @@ pub trait Desktop: Drop {
         ensures reply { (d : Desk) → spells self.old d → result ≡ (step d command.now).1 }
         ensures desk { (d : Desk) → spells self.old d → spells self.new (step d command.now).0 };
 
-    /// Writes what is answered to a question, all its lines, or why it is refused. Fails only where the writer failed
-    /// or took none of what it was offered; a front of the text is then written.
-    fn print_answer<W: Sink>(&self, question: &Question, writer: &mut W) -> Result<(), WriteFailed>
-        ensures { (d : Desk) → spells self.now d → Puts (W.output writer.old) (W.output writer.new) result
-            (answer_text (asked d question.now)) };
+    /// Writes what is answered to a question, all its lines, or why it is refused.
+    fn put_answer<P: Pen>(&self, question: &Question, pen: &mut P)
+        ensures { Gives (λ text. (d : Desk) → spells self.now d → text ≡ answer_text (asked d question.now))
+            (P.offered pen.old) (P.offered pen.new) };
 }

@@ -1,7 +1,6 @@
 //! A run of a script, line by line, over any desktop that applies commands and prints their replies.
 #![tactic(auto)]
 
-mod answer;
 mod desktop;
 mod running;
 mod session;
@@ -9,4 +8,4 @@ mod status;
 
 pub use desktop::Desktop;
 pub use running::{run_script, run_whole};
-pub use status::{RunFault, Status};
+pub use status::{RunFault, Status, run_fault};

@@ -8,9 +8,9 @@ ghost use Rattle.rh_session.specs.Outcome.{Answered, Finished, BrokeOff};
 
 use crate::desktop::Desktop;
 use crate::session::Session;
-use crate::status::{RunFault, Status};
-use rh_defs::sizes::MOST_READS;
-use rh_lines::{Held, Sink, Source, WriteFailed};
+use crate::status::{RunFault, Status, run_fault};
+use rh_feed::{feed_all, feed_whole};
+use rh_lines::{Sink, Source, WriteFailed};
 
 /// So many bytes are read at a time.
 const PIECE: usize = 65_536;
@@ -48,25 +48,11 @@ pub fn run_script<D: Desktop, R: Source, W: Sink>(
     ensures reads { (R.input reader.new).reads ≤ MOST_READS }
 {
     let mut session = Session::new(desktop);
-    let mut held = Held::new();
     let mut piece = [0; PIECE];
-    for _turn in 0..MOST_READS {
-        let count = match reader.read(&mut piece) {
-            Ok(count) => count,
-            Err(_) => return Err(RunFault::ReadFailed),
-        };
-        if count == 0 {
-            match session.finish(writer) {
-                Ok(()) => return Ok(session.status()),
-                Err(_) => return Err(RunFault::WriteFailed),
-            }
-        }
-        match session.feed(&piece[..count], &mut held, writer) {
-            Ok(()) => {}
-            Err(_) => return Err(RunFault::WriteFailed),
-        }
+    match feed_all(&mut session, reader, &mut piece, writer) {
+        Ok(()) => Ok(session.status()),
+        Err(fault) => Err(run_fault(fault)),
     }
-    Err(RunFault::TooLong)
 }
 
 /// Runs a script that lies in memory over a desktop, and writes the answer of each line. Fails only where the writer
@@ -85,8 +71,6 @@ pub fn run_whole<D: Desktop, W: Sink>(
         (W.output writer.old) (W.output writer.new)) }
 {
     let mut session = Session::new(desktop);
-    let mut held = Held::new();
-    session.feed(script, &mut held, writer)?;
-    session.finish(writer)?;
+    feed_whole(&mut session, script, writer)?;
     Ok(session.status())
 }

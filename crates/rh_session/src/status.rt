@@ -1,5 +1,9 @@
 //! How a run ends.
 
+ghost use Rattle.std.specs.Prelude.{◌≡◌};
+ghost use Rattle.rh_session.specs.Outcome.{run_fault_of};
+
+use rh_feed::FeedFault;
 use thiserror::Error;
 
 /// How a run that came to the end of its script went.
@@ -26,4 +30,15 @@ pub enum RunFault {
     /// The reader gave bytes at 1,000,000 reads. The lines up to there have been answered.
     #[error("script too long")]
     TooLong,
+}
+
+/// The fault of a run whose lines ended early.
+pub fn run_fault(fault: FeedFault) -> RunFault
+    ensures { result ≡ run_fault_of fault }
+{
+    match fault {
+        FeedFault::ReadFailed => RunFault::ReadFailed,
+        FeedFault::WriteFailed => RunFault::WriteFailed,
+        FeedFault::TooLong => RunFault::TooLong,
+    }
 }

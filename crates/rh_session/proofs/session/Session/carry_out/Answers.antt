@@ -1,22 +1,35 @@
-use Rattle.rh_defs.specs.Range.{in_range}
+use Rattle.std.proofs.Common.{refl, sym}
 use Rattle.rh_defs.specs.Commands.{step}
+use Rattle.rh_defs.specs.Questions.{Nothing}
+use Rattle.rh_defs.specs.Range.{in_range}
+use Rattle.rh_defs.specs.Text.{first_line}
 use Rattle.rh_defs.proofs.QuestionLaws.{asked-stays, one-line, question-text}
-use Rattle.rh_session.proofs.SessionLemmas.{or_false}
+use Rattle.rh_session.proofs.RunLemmas.{or_false}
 use Rattle.rh_session.proofs.session.Session.carry_out.Goals as goal
 
-pub returns-in-Ask-clause-text : goal.returns-in-Ask-clause-text
+pub returns-in-Ask : goal.returns-in-Ask
 unfolding in_range
-returns-in-Ask-clause-text g c = λ s h.
-    rw (c.in-Ask.is, question-text s.desk c.in-Ask.question (rw c.in-Ask.is at c.requires.in_range)) (c.write.ensures s.desk h.desk)
+returns-in-Ask g c = record {
+  text = c.put_answer.ensures.text;
+  told = record {
+    desk = λ d h. rw (c.in-Ask.is, asked-stays d c.in-Ask.question) h;
+    answer = λ d h. rw (c.in-Ask.is, question-text d c.in-Ask.question (rw c.in-Ask.is at c.requires)) (c.put_answer.ensures.told d h);
+    bad = sym (or_false c.args.self.now.has_bad_line);
+  };
+  offered = c.put_answer.ensures.offered;
+}
 
-pub returns-in-Ask-clause-state : goal.returns-in-Ask-clause-state
-returns-in-Ask-clause-state g c =
-    λ s h. rw (c.in-Ask.is, asked-stays s.desk c.in-Ask.question) (record { desk = h.desk; line = h.line; bad = rw (or_false s.bad) h.bad })
-
-pub returns-in_default-clause-text : goal.returns-in_default-clause-text
-returns-in_default-clause-text g c = λ s h.
-    rw (
-      one-line (step s.desk c.args.command.now).0 c.args.command.now (step s.desk c.args.command.now).1 c.in_default.not-Ask,
-      ← c.apply-reply.ensures.reply s.desk h.desk,
+pub returns-in_default : goal.returns-in_default
+returns-in_default g c = record {
+  text = first_line c.apply-reply.result Nothing;
+  told = record {
+    desk = c.apply-reply.ensures.desk;
+    answer = λ d h. rw (
+      one-line (step d c.args.command.now).0 c.args.command.now (step d c.args.command.now).1 c.in_default.not-Ask,
+      ← c.apply-reply.ensures.reply d h,
     )
-    (c.write-in_default.ensures (step s.desk c.args.command.now).0 (c.apply-reply.ensures.desk s.desk h.desk))
+    refl;
+    bad = sym (or_false c.args.self.now.has_bad_line);
+  };
+  offered = c.put_first_line.ensures;
+}
