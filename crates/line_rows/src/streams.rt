@@ -2,12 +2,9 @@
 
 use arrayvec::ArrayVec;
 use rh_defs::LineFault;
-use rh_lines::{Flagged, Held, Sink, Source, print_fault, put};
+use rh_lines::{Flagged, Pen, Sink, Source, WriterPen, print_fault};
 use std::alloc::Global;
 use std::io::{self, Read, Write};
-
-/// The bytes that a `Held` has room for.
-const HELD: usize = 65_536;
 
 /// Prints what is read and written.
 pub(crate) fn print_streams<W: Write>(alloc: Global, output: &mut W) -> io::Result<()> {
@@ -19,7 +16,7 @@ pub(crate) fn print_streams<W: Write>(alloc: Global, output: &mut W) -> io::Resu
             print_narrow(room, fails, output)?;
         }
     }
-    print_held(output)
+    print_pen(output)
 }
 
 /// Prints what so many reads of at most 6 bytes answer, and the bytes that each gives.
@@ -116,17 +113,36 @@ impl Read for Broken {
     }
 }
 
-/// Prints what fits into bytes that are held, and what doesn't.
-fn print_held<W: Write>(output: &mut W) -> io::Result<()> {
-    let mut held = Held::new();
-    let most = put(&mut held, &[7; HELD - 1]);
-    let more = put(&mut held, b"ab");
-    let length = held.as_slice().len();
-    let last = put(&mut held, b"c");
-    writeln!(output, "{most:?} {more:?} {length} {last:?}")?;
-    let full = held.write(b"d");
-    held.cut(2);
-    writeln!(output, "{full:?} {:?}", held.as_slice())?;
-    let again = held.write(b"d");
-    writeln!(output, "{again:?}")
+/// Takes all that it is offered, and notes how many bytes each call had.
+#[derive(Drop)]
+struct Calls {
+    lengths: ArrayVec<usize, 16>,
+}
+
+impl Write for Calls {
+    fn write(&mut self, bytes: &[u8]) -> io::Result<usize> {
+        let _fits = self.lengths.try_push(bytes.len());
+        Ok(bytes.len())
+    }
+
+    fn flush(&mut self) -> io::Result<()> {
+        Ok(())
+    }
+}
+
+/// Prints how many bytes a pen with room for four offers at a time.
+fn print_pen<W: Write>(output: &mut W) -> io::Result<()> {
+    let mut writer = Flagged::new(Calls {
+        lengths: ArrayVec::new(),
+    });
+    let mut room = [0; 4];
+    let mut pen = WriterPen::new(&mut writer, &mut room);
+    pen.put(b"ab");
+    pen.put(b"cd");
+    pen.put(b"e");
+    pen.put(b"fghijkl");
+    pen.put(b"m");
+    let finished = pen.finish();
+    let calls = writer.into_inner();
+    writeln!(output, "{finished:?} {:?}", calls.lengths.as_slice())
 }

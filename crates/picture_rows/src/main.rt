@@ -20,10 +20,10 @@ use rh_lines::{Flagged, Pen, WriteFailed, WriterPen};
 
 fn main(rt: HostRuntime) -> Result<(), WriteFailed> {
     let mut output = Flagged::new(rt.stdout());
-    let mut pen = WriterPen::new(&mut output);
+    let mut pen = WriterPen::new(&mut output, &mut []);
     print_lines(&mut pen);
     print_elements(&mut pen);
-    pen.done()
+    pen.finish()
 }
 
 /// Prints the lines of maps.

@@ -24,7 +24,7 @@ pub(crate) fn print_steps<P: Pen>(pen: &mut P) {
 fn print_front<P: Pen>(pen: &mut P) {
     let mut front = [0; FRONT];
     let mut text = WholeText::new(&mut front);
-    print_head(b"a<b", 8, &mut WriterPen::new(&mut text));
+    print_head(b"a<b", 8, &mut WriterPen::new(&mut text, &mut []));
     pen.put(&front);
 }
 

@@ -46,8 +46,6 @@ pub use Rattle.rh_figure.specs.Phrases.{Text, area_name, cut, is_returned, task_
 pub use Rattle.rh_figure.specs.Rows.{area_rows, page_mark}
 pub use Rattle.rh_figure.specs.Scene.{Scene, message_of_scene, scene_of}
 pub use Rattle.rh_figure.specs.Share.{AreaOf, Holding, IsShared, Owner, Share, SlotOf, count_of, fixed_holding, holdings}
-pub use Rattle.rh_lines.proofs.FlowLemmas.{takes_more, takes_none}
-pub use Rattle.rh_lines.specs.Flow.{Breaks, Output, Puts, Takes}
 pub use Rattle.rh_map.proofs.SeamLemmas.{shown-append}
 pub use Rattle.rh_map.specs.Written.{shown_lines}
 pub use Rattle.rh_sight.proofs.Holders.{at-some}

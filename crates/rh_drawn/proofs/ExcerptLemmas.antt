@@ -2,7 +2,7 @@
 use Rattle.rh_drawn.proofs.Common.{◌≡◌, ℕ, zero, suc, ◌+◌, ◌/◌, ◌%◌, ◌<◌, ◌≤◌, Bool, true, false, eqb, refl, ap, ap₂, sym, subst, ◌∙◌, arith, List, [], ◌∷◌}
 use Rattle.rh_drawn.proofs.Common.{◌++◌, append-nil, append_assoc, length, take, drop, Some, None, Result, Ok, Err, codes, if◌then◌else◌, nat_le, nat_lt}
 use Rattle.rh_drawn.proofs.Common.{◌==◌, decimal, AllByRecursion, ne_eqb, nat_tests, length-append, length-drop, LineFault, TooLong}
-use Rattle.rh_drawn.proofs.Common.{Reply, Nothing, ended, unended, fault_text, first_line, cut, Output, Puts, Excerpts}
+use Rattle.rh_drawn.proofs.Common.{Reply, Nothing, ended, unended, fault_text, first_line, cut, Excerpts}
 use Rattle.std.specs.Fmt.{digit_glyph, digits, digits_onto}
 use Rattle.rh_defs.specs.declared.fault.LineFault.TheVariants.{Unended, Unknown, Count, Word}
 use Rattle.rh_defs.specs.declared.message.Action.{Action}
@@ -252,12 +252,8 @@ one-kept text t = go (kept text)
 
 -- ---- what is written to a front that had nothing
 
-abbrev pub out_of : List ℕ → Output
-out_of text = record { taken = Some text; count = None; failed = false }
-
-pub written : {E : Type 0} {old new : List ℕ} (r : Result Unit E) (text : List ℕ) → old ≡ [] → Puts (out_of old) (out_of new) r text → new ≡ text
-written (Ok v) text none p = p.ok.taken ∙ ap (λ z. z ++ text) none
-written (Err e) text none p = absurd (let never : ◌≡◌ {A = Bool} false true = p.err.failed in cc)
+pub written : {old new text : List ℕ} → old ≡ [] → new ≡ old ++ text → new ≡ text
+written {text = text} none offered = offered ∙ ap (λ z. z ++ text) none
 
 -- the count of a line that was written
 pub one-counted : {n : ℕ} (text : List ℕ) → OneLine text → n ≡ min (length (ended text)) (2 ^ 32 - 1) → n ≡ 1

@@ -1,7 +1,7 @@
 -- A map from the lines that were taken, one after the other.
 use Rattle.rh_drawn.proofs.Common.{◌≡◌, ℕ, ◌+◌, Bool, true, false, ◌||◌, List, [], ◌∷◌, ◌++◌, map, refl, sym, ap, ap₂, ◌∙◌, subst, append-nil, Option, Some}
-use Rattle.rh_drawn.proofs.Common.{None, Ok, Err, is_err, list_any, flat_map-append, Command, Meaning, line_means, Desk, IsReordered, Output, Takes}
-use Rattle.rh_drawn.proofs.Common.{takes_none, takes_more, kept, kept_means, Share, IsShared, Text, Place, after_read, is_mark, lines_of_read, read_line}
+use Rattle.rh_drawn.proofs.Common.{None, Ok, Err, is_err, list_any, flat_map-append, Command, Meaning, line_means, Desk, IsReordered}
+use Rattle.rh_drawn.proofs.Common.{kept, kept_means, Share, IsShared, Text, Place, after_read, is_mark, lines_of_read, read_line}
 use Rattle.rh_drawn.proofs.Common.{written_lines, Mapper, Drew, TookLine, place_in}
 use Rattle.rh_defs.specs.Script.{is_bad}
 use Rattle.rh_defs.specs.Order.{with_queue}
@@ -80,21 +80,20 @@ stands_on {desk = desk} {p = p} {m = m} r is f =
     }
 
 -- what was written of a line is what the map shows of it
-pub record Shows (marked : Bool) (p : Place) (r : Read) (o q : Output) : Type 0 where
+pub record Shows (marked : Bool) (p : Place) (r : Read) (text : List ℕ) : Type 0 where
   pub share : Share
   pub shared : IsShared share (after_read p r).desk
-  pub written : Takes o q (written_lines (lines_of_read marked share p r))
+  pub text_is : text ≡ written_lines (lines_of_read marked share p r)
 
-pub shows : {D : Type 0} {desk : D → Desk} {marked : Bool} {p : Place} {m n : Mapper D} {o q : Output} (line : Text) (meaning : Meaning (Option Command))
-    → Stands desk marked p m → Drew desk m o line meaning n q → Shows marked p (line, meaning) o q
-shows {D} {desk} {marked} {p} {m} {n} {o} {q} line meaning is drew =
+pub shows : {D : Type 0} {desk : D → Desk} {marked : Bool} {p : Place} {m n : Mapper D} {text : List ℕ} (line : Text) (meaning : Meaning (Option Command))
+    → Stands desk marked p m → Drew desk m line meaning n text → Shows marked p (line, meaning) text
+shows {D} {desk} {marked} {p} {m} line meaning is drew =
     let r : Read = (line, meaning) in
-    let P : List Text → Type 0 = λ z. Takes o q (written_lines z) in
     record {
       share = drew.share;
       shared = shared_alike drew.share (after_alike p (place_in desk m) r (stands_place is)).desks drew.shared;
-      written = subst P (ap (λ k. lines_of_read k drew.share (place_in desk m) r) is.marked_is
-          ∙ lines_alike marked drew.share p (place_in desk m) r (stands_place is)) drew.written;
+      text_is = drew.text_is ∙ ap written_lines (ap (λ k. lines_of_read k drew.share (place_in desk m) r) is.marked_is
+          ∙ lines_alike marked drew.share p (place_in desk m) r (stands_place is));
     }
 
 -- ---- lines one after the other
@@ -111,22 +110,22 @@ after_reads p (r ∷ rs) = after_reads (after_read p r) rs
 abbrev pub is_bad_read : Read → Bool
 is_bad_read r = is_err r.1
 
--- of some lines the map was written, and a mapper stands behind them
-pub record Drawn {D : Type 0} (desk : D → Desk) (marked : Bool) (p : Place) (reads : List Read) (bad : Bool) (n : Mapper D) (o q : Output) : Type 0 where
+-- a text is the map of some lines, and a mapper stands behind them
+pub record Drawn {D : Type 0} (desk : D → Desk) (marked : Bool) (p : Place) (reads : List Read) (bad : Bool) (n : Mapper D) (text : List ℕ) : Type 0 where
   pub stages : List Stage
   pub lines : map read_of stages ≡ reads
   pub shared : AreShared p stages
-  pub written : Takes o q (written_lines (map_lines marked p stages))
+  pub text_is : text ≡ written_lines (map_lines marked p stages)
   pub stands : Stands desk marked (after_reads p reads) n
   pub bad_is : n.has_bad_line ≡ (bad || list_any is_bad_read reads)
 
-drawn_none : {D : Type 0} {desk : D → Desk} {marked : Bool} {p : Place} {m : Mapper D} (o : Output) → Stands desk marked p m
-    → Drawn desk marked p [] m.has_bad_line m o o
-drawn_none o is = record {
+drawn_none : {D : Type 0} {desk : D → Desk} {marked : Bool} {p : Place} {m : Mapper D} → Stands desk marked p m
+    → Drawn desk marked p [] m.has_bad_line m []
+drawn_none is = record {
   stages = [];
   lines = refl;
   shared = tt;
-  written = takes_none o;
+  text_is = refl;
   stands = is;
   bad_is = sym (or_false _);
 }
@@ -139,34 +138,34 @@ either_first : (a b c : Bool) → ((a || b) || c) ≡ (a || (b || c))
 either_first true b c = refl
 either_first false b c = refl
 
-drawn_more : {D : Type 0} {desk : D → Desk} {marked : Bool} {p : Place} {m n l : Mapper D} {o q u : Output} (line : Text)
-    (meaning : Meaning (Option Command)) (reads : List Read) → Stands desk marked p m → Drew desk m o line meaning n q
-    → Drawn desk marked (after_read p (line, meaning)) reads n.has_bad_line l q u → Drawn desk marked p ((line, meaning) ∷ reads) m.has_bad_line l o u
-drawn_more {D} {desk} {marked} {p} {m} {n} {l} {o} {q} {u} line meaning reads is drew rest =
+drawn_more : {D : Type 0} {desk : D → Desk} {marked : Bool} {p : Place} {m n l : Mapper D} {a b : List ℕ} (line : Text)
+    (meaning : Meaning (Option Command)) (reads : List Read) → Stands desk marked p m → Drew desk m line meaning n a
+    → Drawn desk marked (after_read p (line, meaning)) reads n.has_bad_line l b → Drawn desk marked p ((line, meaning) ∷ reads) m.has_bad_line l (a ++ b)
+drawn_more {D} {desk} {marked} {p} {m} line meaning reads is drew rest =
     let here = shows line meaning is drew in
     let r : Read = (line, meaning) in
-    let P : List ℕ → Type 0 = λ z. Takes o u z in
     record {
       stages = (r, here.share) ∷ rest.stages;
       lines = ap (λ rs. r ∷ rs) rest.lines;
       shared = (here.shared, rest.shared);
-      written = subst P (sym (written_more (lines_of_read marked here.share p r) (map_lines marked (after_read p r) rest.stages)))
-          (takes_more here.written rest.written);
+      text_is = ap₂ (λ x y. x ++ y) here.text_is rest.text_is
+          ∙ sym (written_more (lines_of_read marked here.share p r) (map_lines marked (after_read p r) rest.stages));
       stands = rest.stands;
       bad_is = rest.bad_is ∙ (ap (λ b. b || list_any is_bad_read reads) drew.follows.bad
           ∙ either_first m.has_bad_line (is_err meaning) (list_any is_bad_read reads));
     }
 
 -- all lines that were taken, as far as they are kept
-pub took_map : {D : Type 0} {desk : D → Desk} {marked : Bool} {p : Place} {m n : Mapper D} {o q : Output} (lines : List Text) → Stands desk marked p m
-    → TookAll (TookLine desk) m o lines n q → Drawn desk marked p (map read_line lines) m.has_bad_line n o q
-took_map {D} {desk} {marked} {p} {m} {n} {o} {q} [] is (a, b) =
-    let P : Mapper D → Type 0 = λ z. Drawn desk marked p [] m.has_bad_line z o q in
-    let Q : Output → Type 0 = λ z. Drawn desk marked p [] m.has_bad_line m o z in
-    subst P a (subst Q b (drawn_none o is))
-took_map {D} {desk} {marked} {p} {m} {n} {o} {q} (line ∷ lines) is (k, u, one, rest) =
-    drawn_more line (line_means line) (map read_line lines) is one
-    (took_map {p = after_read p (read_line line)} lines (stands_on (read_line line) is one.follows) rest)
+pub took_map : {D : Type 0} {desk : D → Desk} {marked : Bool} {p : Place} {m n : Mapper D} {text : List ℕ} (lines : List Text) → Stands desk marked p m
+    → TookAll (TookLine desk) m lines n text → Drawn desk marked p (map read_line lines) m.has_bad_line n text
+took_map {D} {desk} {marked} {p} {m} {n} {text} [] is (a, b) =
+    let P : Mapper D → Type 0 = λ z. Drawn desk marked p [] m.has_bad_line z text in
+    let Q : List ℕ → Type 0 = λ z. Drawn desk marked p [] m.has_bad_line m z in
+    subst P a (subst Q (sym b) (drawn_none is))
+took_map {D} {desk} {marked} {p} {m} {n} {text} (line ∷ lines) is (k, a, b, one, rest, e) =
+    let Q : List ℕ → Type 0 = λ z. Drawn desk marked p (map read_line (line ∷ lines)) m.has_bad_line n z in
+    subst Q (sym e) (drawn_more line (line_means line) (map read_line lines) is one
+    (took_map {p = after_read p (read_line line)} lines (stands_on (read_line line) is one.follows) rest))
 
 -- ---- the lines themselves, not only as far as they are kept
 
@@ -220,18 +219,17 @@ bad_kept [] = refl
 bad_kept (l ∷ ls) = ap₂ (λ a b. a || b) (ap is_err (kept_means l)) (bad_kept ls)
 
 -- all lines that were taken, each whole
-pub took_lines : {D : Type 0} {desk : D → Desk} {marked : Bool} {p : Place} {m n : Mapper D} {o q : Output} (lines : List Text) → Stands desk marked p m
-    → TookAll (TookLine desk) m o (map kept lines) n q → Drawn desk marked p (map read_line lines) m.has_bad_line n o q
-took_lines {D} {desk} {marked} {p} {m} {n} {o} {q} lines is took =
+pub took_lines : {D : Type 0} {desk : D → Desk} {marked : Bool} {p : Place} {m n : Mapper D} {text : List ℕ} (lines : List Text) → Stands desk marked p m
+    → TookAll (TookLine desk) m (map kept lines) n text → Drawn desk marked p (map read_line lines) m.has_bad_line n text
+took_lines {D} {desk} {marked} {p} {m} {n} lines is took =
     let drawn = took_map (map kept lines) is took in
     let whole = wholes marked p lines drawn.stages drawn.lines drawn.shared in
-    let P : List Text → Type 0 = λ z. Takes o q (written_lines z) in
     let Q : Place → Type 0 = λ z. Stands desk marked z n in
     record {
       stages = whole_stages lines drawn.stages;
       lines = whole.reads;
       shared = whole.shared;
-      written = subst P (sym whole.text) drawn.written;
+      text_is = drawn.text_is ∙ ap written_lines (sym whole.text);
       stands = subst Q (sym whole.after) drawn.stands;
       bad_is = drawn.bad_is ∙ ap (λ b. m.has_bad_line || b) (bad_kept lines ∙ sym (bad_reads lines));
     }
@@ -240,7 +238,7 @@ took_lines {D} {desk} {marked} {p} {m} {n} {o} {q} lines is took =
     bad_reads [] = refl
     bad_reads (l ∷ ls) = ap (λ b. is_bad l || b) (bad_reads ls)
 
--- the map of these lines
-pub map_is : {D : Type 0} {desk : D → Desk} {marked : Bool} {p : Place} {reads : List Read} {bad : Bool} {n : Mapper D} {o q : Output}
-    (d : Drawn desk marked p reads bad n o q) → IsMap marked p reads (written_lines (map_lines marked p d.stages))
-map_is d = record { stages = d.stages; lines = d.lines; shared = d.shared; is = refl }
+-- the text is the map of these lines
+pub map_is : {D : Type 0} {desk : D → Desk} {marked : Bool} {p : Place} {reads : List Read} {bad : Bool} {n : Mapper D} {text : List ℕ}
+    → Drawn desk marked p reads bad n text → IsMap marked p reads text
+map_is d = record { stages = d.stages; lines = d.lines; shared = d.shared; is = d.text_is }

@@ -1,16 +1,17 @@
 -- A map behind one line: what its pen was offered, and where it stands.
 use Rattle.rh_drawn.proofs.Common.{◌≡◌, ℕ, ◌+◌, ◌<◌, Bool, true, false, ◌||◌, List, [], ◌∷◌, ◌++◌, append-nil, refl, sym, ap, ap₂, ◌∙◌, subst, length}
-use Rattle.rh_drawn.proofs.Common.{Option, Some, None, Ok, Err, ◌&&◌, if◌then◌else◌, is_err, not, ◌==◌, OnErr, OnOk, Result, eqb-true, Command, LineFault}
+use Rattle.rh_drawn.proofs.Common.{Option, Some, None, Ok, Err, ◌&&◌, if◌then◌else◌, is_err, not, ◌==◌, eqb-true, Command, LineFault}
 use Rattle.rh_drawn.proofs.Common.{Desk, Meaning, line_means, IsReordered, step, fault_text, kept, kept_means, Share, IsShared, Text, scene_of, Place}
-use Rattle.rh_drawn.proofs.Common.{Reply, after_read, arith, eq-eqb}
-use Rattle.rh_drawn.proofs.Common.{is_mark, lines_of_read, written_lines, Output, Puts, Mapper, reply_to, Drew, place_in}
+use Rattle.rh_drawn.proofs.Common.{Reply, after_read, arith}
+use Rattle.rh_drawn.proofs.Common.{is_mark, lines_of_read, written_lines, Mapper, reply_to, Drew, TookLine, place_in}
 use Rattle.rh_defs.specs.declared.reply.Reply.TheVariants.{Done}
+use Rattle.rh_feed.specs.Taken.{Gives}
 use Rattle.rh_feed.proofs.LineLemmas.{kept_nil}
 use Rattle.rh_figure.specs.Scene.{Before, before_of, marks_of}
 use Rattle.rh_figure.specs.Map.{command_lines, step_lines}
 use Rattle.rh_figure.proofs.Alike.{marks-alike, scene-alike}
 use Rattle.rh_drawn.specs.Deeds.{IsLikeReply, rest_means}
-use Rattle.rh_drawn.specs.DrawnPlaces.{Broke, BrokeRest, TookRest}
+use Rattle.rh_drawn.specs.DrawnPlaces.{TookRest}
 use Rattle.rh_drawn.specs.Inner.StepsShown.{IsSamePlace, Offers, shown_step}
 use Rattle.rh_drawn.proofs.MapLemmas.{shared_alike}
 use Rattle.rh_drawn.proofs.ReadLemmas.{same_read}
@@ -57,14 +58,6 @@ when-off xs e = ap (λ (q : Bool). if q then xs else []) e
 
 when-on : {b : Bool} {xs : List Text} → b ≡ true → (if b then xs else []) ≡ xs
 when-on {xs = xs} e = ap (λ (q : Bool). if q then xs else []) e
-
-pub on-ok : {E A B : Type 0} (r : Result Unit E) → (A → B) → OnOk r A → OnOk r B
-on-ok (Ok v) f a = f a
-on-ok (Err e) f a = tt
-
-pub on-err : {E A B : Type 0} (r : Result Unit E) → (A → B) → OnErr r A → OnErr r B
-on-err (Ok v) f a = tt
-on-err (Err e) f a = f a
 
 pub reordered-same : (d : Desk) → IsReordered d d
 reordered-same d = record { same = record { each = λ h. refl }; rest = refl }
@@ -174,40 +167,33 @@ module _ {D : Type 0} {desk : D → Desk} {m n : Mapper D} {old new : List ℕ} 
       let same = same_rest rest in
       offers-as (λ s. same.lines m.marked s (place_in desk m)) (same.after (place_in desk m)) (same.bad ∙ sym (rest_bad rest))
 
-  -- a writer took what was offered, or failed before the end of it
-  module _ {E : Type 0} {o p : Output} {line : Text} {means : Meaning (Option Command)} (r : Result Unit E) (offers : Offers desk m line means n old new)
-      (puts : Puts o p r (written_lines (lines_of_read m.marked offers.share (place_in desk m) (line, means)))) where
-    pub drew-line : OnOk r (Drew desk m o line means n p)
-    drew-line = on-ok r (λ takes. record { share = offers.share; shared = offers.shared; written = takes; follows = offers.follows }) puts.ok
+  -- the text that was offered
+  offers-text : {line : Text} {means : Meaning (Option Command)} → Offers desk m line means n old new → Gives (Drew desk m line means n) old new
+  offers-text {line} {means} offers = record {
+    text = written_lines (lines_of_read m.marked offers.share (place_in desk m) (line, means));
+    told = record { share = offers.share; shared = offers.shared; text_is = refl; follows = offers.follows };
+    offered = offers.offered;
+  }
 
-    pub broke-line : OnErr r (Broke desk m o line means p)
-    broke-line = on-err r (λ breaks. record { share = offers.share; shared = offers.shared; broken = breaks }) puts.err
+  pub took-line : (line : Text) → Offers desk m line (line_means line) n old new → Gives (TookLine desk m (kept line) n) old new
+  took-line line offers = offers-text (offers-kept line offers)
 
--- the same of what stands behind the last line feed, if that is something
-module _ {D : Type 0} {desk : D → Desk} {m : Mapper D} {o p : Output} where
-  pub drew-rest : {n : Mapper D} (rest : Text) → 0 < length rest → Drew desk m o (kept rest) (rest_means (kept rest)) n p → TookRest desk m o (kept rest) n p
-  drew-rest [] some drew = absurd (omega arith)
-  drew-rest {n} (b ∷ bs) some drew =
-      let K : Text → Type 0 = λ z. Drew desk m o z (rest_means z) n p in
-      let T : Text → Type 0 = λ z. TookRest desk m o z n p in
-      subst T (sym (kept_some b bs)) (subst K (kept_some b bs) drew)
+  -- the same of what stands behind the last line feed, if that is something
+  pub took-rest : (rest : Text) → false ≡ (length rest == 0) → Offers desk m rest (rest_means rest) n old new → Gives (TookRest desk m (kept rest) n) old new
+  took-rest [] some offers = absurd (cc)
+  took-rest (b ∷ bs) some offers =
+      let all = offers-text (offers-rest (b ∷ bs) offers) in
+      let K : Text → Type 0 = λ z. Drew desk m z (rest_means z) n all.text in
+      let T : Text → Type 0 = λ z. TookRest desk m z n all.text in
+      record { text = all.text; told = subst T (sym (kept_some b bs)) (subst K (kept_some b bs) all.told); offered = all.offered }
 
-  pub broke-rest : (rest : Text) → 0 < length rest → Broke desk m o (kept rest) (rest_means (kept rest)) p → BrokeRest desk m o (kept rest) p
-  broke-rest [] some broke = absurd (omega arith)
-  broke-rest (b ∷ bs) some broke =
-      let K : Text → Type 0 = λ z. Broke desk m o z (rest_means z) p in
-      let T : Text → Type 0 = λ z. BrokeRest desk m o z p in
-      subst T (sym (kept_some b bs)) (subst K (kept_some b bs) broke)
-
--- something or nothing stands behind the last line feed
-pub has-rest : (rest : Text) → false ≡ (length rest == 0) → 0 < length rest
-has-rest rest e =
-    let other : length rest ≡ 0 → ⊥ = λ q. (let t : false ≡ true = e ∙ eq-eqb (length rest) 0 q in cc) in
-    omega (arith, other)
-
-pub rest-none : {D : Type 0} (desk : D → Desk) (m : Mapper D) (o : Output) (rest : Text) → true ≡ (length rest == 0) → TookRest desk m o (kept rest) m o
-rest-none desk m o [] none = let T : Text → Type 0 = λ z. TookRest desk m o z m o in subst T (sym kept_nil) (refl, refl)
-rest-none desk m o (b ∷ bs) none = let no : length (b ∷ bs) ≡ 0 = eqb-true (length (b ∷ bs)) 0 (sym none) in absurd (omega arith)
+-- nothing stands there
+pub rest-none : {D : Type 0} (desk : D → Desk) (m : Mapper D) (old : List ℕ) (rest : Text) → true ≡ (length rest == 0)
+    → Gives (TookRest desk m (kept rest) m) old old
+rest-none desk m old [] none =
+    let T : Text → Type 0 = λ z. TookRest desk m z m [] in
+    record { text = []; told = subst T (sym kept_nil) (refl, refl); offered = sym (append-nil old) }
+rest-none desk m old (b ∷ bs) none = let no : length (b ∷ bs) ≡ 0 = eqb-true (length (b ∷ bs)) 0 (sym none) in absurd (omega arith)
 
 -- ---- a step, by what its calls tell
 

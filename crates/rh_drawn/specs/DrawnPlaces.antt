@@ -7,7 +7,6 @@ use Rattle.rh_defs.specs.Order.{IsReordered}
 use Rattle.rh_figure.specs.Share.{Share, IsShared}
 use Rattle.rh_figure.specs.Phrases.{Text}
 use Rattle.rh_figure.specs.Map.{Place, Read, after_read, lines_of_read, place, written_lines}
-use Rattle.rh_lines.specs.Flow.{Output, Takes, Breaks}
 use Rattle.rh_drawn.specs.Deeds.{rest_means}
 use Rattle.rh_drawn.specs.declared.mapper.Mapper.{Mapper}
 
@@ -31,31 +30,18 @@ pub record Follows {D : Type 0} (desk : D → Desk) (m : Mapper D) (r : Read) (n
   pub wanted : n.wanted ≡ (after_read (place_in desk m) r).wanted
   pub bad : n.has_bad_line ≡ (m.has_bad_line || is_err r.1)
 
--- the lines of one line of a script were written, with some share of the pool behind it
-pub record Drew {D : Type 0} (desk : D → Desk) (m : Mapper D) (o : Output) (line : Text) (meaning : Meaning (Option Command)) (n : Mapper D) (p : Output) : Type 0 where
+-- this text is what a map has of one line of a script, with some share of the pool behind it
+pub record Drew {D : Type 0} (desk : D → Desk) (m : Mapper D) (line : Text) (meaning : Meaning (Option Command)) (n : Mapper D) (text : List ℕ) : Type 0 where
   pub share : Share
   pub shared : IsShared share (after_read (place_in desk m) (line, meaning)).desk
-  pub written : Takes o p (written_lines (lines_of_read m.marked share (place_in desk m) (line, meaning)))
+  pub text_is : text ≡ written_lines (lines_of_read m.marked share (place_in desk m) (line, meaning))
   pub follows : Follows desk m (line, meaning) n
 
--- the writer failed, and took a front of them
-pub record Broke {D : Type 0} (desk : D → Desk) (m : Mapper D) (o : Output) (line : Text) (meaning : Meaning (Option Command)) (p : Output) : Type 0 where
-  pub share : Share
-  pub shared : IsShared share (after_read (place_in desk m) (line, meaning)).desk
-  pub broken : Breaks o p (written_lines (lines_of_read m.marked share (place_in desk m) (line, meaning)))
-
 -- the same of a complete line
-abbrev pub TookLine : {D : Type 0} → (D → Desk) → Mapper D → Output → List ℕ → Mapper D → Output → Type 0
-TookLine desk m o line n p = Drew desk m o line (line_means line) n p
-
-abbrev pub BrokeLine : {D : Type 0} → (D → Desk) → Mapper D → Output → List ℕ → Output → Type 0
-BrokeLine desk m o line p = Broke desk m o line (line_means line) p
+abbrev pub TookLine : {D : Type 0} → (D → Desk) → Mapper D → List ℕ → Mapper D → List ℕ → Type 0
+TookLine desk m line n text = Drew desk m line (line_means line) n text
 
 -- the same of what stands behind the last line feed, which may be nothing
-abbrev pub TookRest : {D : Type 0} → (D → Desk) → Mapper D → Output → List ℕ → Mapper D → Output → Type 0
-TookRest desk m o [] n p = (n ≡ m) × (p ≡ o)
-TookRest desk m o (b ∷ bs) n p = Drew desk m o (b ∷ bs) (rest_means (b ∷ bs)) n p
-
-abbrev pub BrokeRest : {D : Type 0} → (D → Desk) → Mapper D → Output → List ℕ → Output → Type 0
-BrokeRest desk m o [] p = ⊥
-BrokeRest desk m o (b ∷ bs) p = Broke desk m o (b ∷ bs) (rest_means (b ∷ bs)) p
+abbrev pub TookRest : {D : Type 0} → (D → Desk) → Mapper D → List ℕ → Mapper D → List ℕ → Type 0
+TookRest desk m [] n text = (n ≡ m) × (text ≡ [])
+TookRest desk m (b ∷ bs) n text = Drew desk m (b ∷ bs) (rest_means (b ∷ bs)) n text

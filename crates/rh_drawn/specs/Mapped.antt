@@ -2,14 +2,10 @@
 use Rattle.std.specs.Prelude.{◌≡◌, ◌⊎◌, ℕ, Bool, List, ◌++◌}
 use Rattle.std.specs.Io.KnownBytes.{Consumes, IsAtEnd}
 use Rattle.rh_defs.specs.Script.{has_bad_line}
-use Rattle.rh_feed.specs.declared.fault.FeedFault.{FeedFault}
-use Rattle.rh_feed.specs.declared.fault.FeedFault.TheVariants as feed
 use Rattle.rh_figure.specs.Map.{Place, Read, read_ended, read_lines}
 use Rattle.rh_figure.specs.Whole.{IsMap}
 use Rattle.rh_lines.specs.Flow.{Input, Output, Takes, Breaks}
 use Rattle.rh_session.specs.Outcome.{status_of}
-use Rattle.rh_session.specs.declared.status.RunFault.{RunFault}
-use Rattle.rh_session.specs.declared.status.RunFault.TheVariants as run
 use Rattle.rh_session.specs.declared.status.Status.{Status}
 
 -- all was read, and its map was written; no call failed
@@ -45,9 +41,3 @@ pub record MappedUntil (marked : Bool) (p : Place) (before after : Input) (old n
   pub text : List ℕ
   pub map : IsMap marked p reads text
   pub broken : Breaks old new text
-
--- the fault of a run whose lines ended early
-abbrev pub run_fault_of : FeedFault → RunFault
-run_fault_of feed.ReadFailed = run.ReadFailed
-run_fault_of feed.WriteFailed = run.WriteFailed
-run_fault_of feed.TooLong = run.TooLong

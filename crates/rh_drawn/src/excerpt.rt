@@ -11,7 +11,7 @@ ghost use Rattle.rh_map.specs.Replies.{front_of};
 
 use crate::drawn::Drawn;
 use rh_defs::{LineFault, Question, Reply};
-use rh_lines::{print_fault, print_first_line};
+use rh_lines::{put_fault, put_first_line};
 use rh_map::Front;
 use rh_sight::Sight;
 
@@ -23,7 +23,7 @@ pub fn excerpt_answer<D: Drawn>(drawn: &D, question: &Question, front: &mut Fron
     drawn.spelled();
     look_over(drawn);
     front.clear();
-    let _whole = drawn.print_answer(question, front);
+    drawn.put_answer(question, front);
     front.lines()
 }
 
@@ -32,7 +32,7 @@ pub fn excerpt_reply(reply: &Reply, front: &mut Front) -> u32
     ensures { Excerpts (front_of front.new) result (first_line reply.now Nothing) }
 {
     front.clear();
-    let _whole = print_first_line(reply, front);
+    put_first_line(reply, front);
     front.lines()
 }
 
@@ -41,7 +41,7 @@ pub fn excerpt_fault(fault: &LineFault, front: &mut Front) -> u32
     ensures { Excerpts (front_of front.new) result (fault_text fault.now) }
 {
     front.clear();
-    let _whole = print_fault(fault, front);
+    put_fault(fault, front);
     front.lines()
 }
 

@@ -40,7 +40,7 @@ pub use heap_cards::{Band, show_heap_cards};
 pub use letters::{has_letterboxes, show_letterboxes};
 pub use lists::Lists;
 pub use page_changes::freed_of;
-pub use running::{map_script, map_whole, run_fault};
+pub use running::{map_script, map_whole};
 pub use slots::count_tasks;
 pub use steps::Above;
 pub use transfers::{has_transfers, show_transfers};

@@ -24,7 +24,7 @@ use crate::steps::{Above, print_step};
 use arrayvec::ArrayVec;
 use rh_defs::{Command, LineFault, Question, Reply};
 use rh_feed::LineTaker;
-use rh_lines::{Pen, Sink, WriteFailed, WriterPen, read_line};
+use rh_lines::{Pen, read_line};
 use rh_map::{Front, print_remark};
 use rh_session::Status;
 use rh_sight::{Kept, Messages, PageList, is_still};
@@ -212,31 +212,23 @@ impl<D: Drawn> Mapper<D> {
 
 impl<D: Drawn> LineTaker for Mapper<D> {
     ghost use Rattle.std.specs.Prelude.{◌-◌, ◌^◌};
-    ghost use Rattle.rh_drawn.specs.DrawnPlaces.{BrokeLine, BrokeRest, TookLine, TookRest};
+    ghost use Rattle.rh_drawn.specs.DrawnPlaces.{TookLine, TookRest};
 
     ghost took = { TookLine D.desk };
 
-    ghost broke = { BrokeLine D.desk };
-
     ghost took_rest = { TookRest D.desk };
-
-    ghost broke_rest = { BrokeRest D.desk };
 
     ghost room = { λ m. 2 ^ 32 - 1 - m.steps };
 
-    fn take_line<W: Sink>(&mut self, line: &[u8], writer: &mut W) -> Result<(), WriteFailed> {
-        let mut pen = WriterPen::new(writer);
-        self.take(line, &mut pen);
-        pen.done()
+    fn take_line<P: Pen>(&mut self, line: &[u8], pen: &mut P) {
+        self.take(line, pen);
     }
 
-    fn take_rest<W: Sink>(&mut self, rest: &[u8], writer: &mut W) -> Result<(), WriteFailed> {
+    fn take_rest<P: Pen>(&mut self, rest: &[u8], pen: &mut P) {
         if rest.is_empty() {
-            return Ok(());
+            return;
         }
         let fault = rest_fault(rest);
-        let mut pen = WriterPen::new(writer);
-        self.refuse(rest, &fault, &mut pen);
-        pen.done()
+        self.refuse(rest, &fault, pen);
     }
 }

@@ -3,16 +3,16 @@
 ghost use Rattle.std.specs.Prelude.{◌≡◌, ◌≤◌, [], false, length, true, IfErr, IfOk, IsErrOf};
 ghost use Rattle.rh_defs.specs.declared.sizes.TheConstants.{MOST_READS};
 ghost use Rattle.rh_defs.specs.Desk.{Desk};
-ghost use Rattle.rh_drawn.specs.Mapped.{Mapped, MappedSoFar, MappedUntil, run_fault_of};
+ghost use Rattle.rh_drawn.specs.Mapped.{Mapped, MappedSoFar, MappedUntil};
 ghost use Rattle.rh_feed.specs.declared.feeding.TheConstants.{LONGEST_SCRIPT};
 ghost use Rattle.rh_figure.specs.Map.{place};
 ghost use Rattle.rh_lines.specs.Flow.{unread};
 
 use crate::drawn::Drawn;
 use crate::mapper::Mapper;
-use rh_feed::{FeedFault, feed_all, feed_whole};
+use rh_feed::{PIECE, feed_all, feed_whole};
 use rh_lines::{Sink, Source, WriteFailed};
-use rh_session::{RunFault, Status};
+use rh_session::{RunFault, Status, run_fault};
 
 /// Runs a script over what can be drawn, and writes its map: each step, or marked steps alone, each before it reads
 /// on. It gives up after 1,000,000 reads that gave bytes.
@@ -51,7 +51,8 @@ pub fn map_script<D: Drawn, R: Source, W: Sink>(
     ensures reads { (R.input reader.new).reads ≤ MOST_READS }
 {
     let mut mapper = Mapper::new(drawn, marked);
-    match feed_all(&mut mapper, reader, writer) {
+    let mut piece = [0; PIECE];
+    match feed_all(&mut mapper, reader, &mut piece, writer) {
         Ok(()) => Ok(mapper.status()),
         Err(fault) => Err(run_fault(fault)),
     }
@@ -78,15 +79,4 @@ pub fn map_whole<D: Drawn, W: Sink>(
     let mut mapper = Mapper::new(drawn, marked);
     feed_whole(&mut mapper, script, writer)?;
     Ok(mapper.status())
-}
-
-/// The fault of a run whose lines ended early.
-pub fn run_fault(fault: FeedFault) -> RunFault
-    ensures { result ≡ run_fault_of fault }
-{
-    match fault {
-        FeedFault::ReadFailed => RunFault::ReadFailed,
-        FeedFault::WriteFailed => RunFault::WriteFailed,
-        FeedFault::TooLong => RunFault::TooLong,
-    }
 }

@@ -62,9 +62,10 @@ impl<'a, W: Sink> WriterPen<'a, W> {
         ensures err { OnErr result (Breaks (begun_of self.now) (W.output (writer_of self.now).now) (text_of self.now)) }
     {
         if self.failed {
-            return Err(WriteFailed);
+            Err(WriteFailed)
+        } else {
+            Ok(())
         }
-        Ok(())
     }
 
     /// Offers the writer what is held. Fails where the writer failed since the pen was made, and has then taken a
@@ -86,17 +87,17 @@ impl<'a, W: Sink> WriterPen<'a, W> {
         ensures none { self.new.held ≡ 0 }
     {
         let room = &*self.room;
-        let bytes = &room[..self.held];
+        let waiting = &room[..self.held];
         self.held = 0;
         if self.failed {
-            self.back.note(bytes);
+            self.back.note(waiting);
             return;
         }
         let writer = &mut *self.writer;
-        let count = put_front(writer, bytes);
-        self.front.note(&bytes[..count]);
-        self.back.note(&bytes[count..]);
-        self.failed = count < bytes.len();
+        let count = put_front(writer, waiting);
+        self.front.note(&waiting[..count]);
+        self.back.note(&waiting[count..]);
+        self.failed = count < waiting.len();
     }
 
     /// Offers the writer these bytes, where none are held.

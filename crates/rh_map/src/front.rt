@@ -5,14 +5,13 @@ ghost use Rattle.rh_defs.specs.Script.{ended};
 ghost use Rattle.rh_map.specs.Replies.{front_of};
 
 use memchr::memchr_iter;
-use rh_lines::{Sink, Unseen, WriteFailed};
+use rh_lines::{Pen, Unseen};
 use std::marker::Model;
 
 /// So many bytes of a reply are kept.
 const ROOM: usize = 4_096;
 
-/// A text, of which the first 4,096 bytes lie in the value itself. No write of it fails: lines that aren't kept are
-/// counted.
+/// A text, of which the first 4,096 bytes lie in the value itself. Lines that aren't kept are counted.
 #[derive(Drop)]
 pub struct Front {
     bytes: [u8; ROOM],
@@ -71,19 +70,16 @@ impl Front {
     }
 }
 
-impl Sink for Front {
-    ghost use Rattle.std.specs.Prelude.{None, Some, false};
+impl Pen for Front {
+    ghost offered = { λ text. text };
 
-    ghost output = { λ text. record { taken = Some text; count = None; failed = false } };
-
-    fn write(&mut self, bytes: &[u8]) -> Result<usize, WriteFailed> {
+    fn put(&mut self, bytes: &[u8]) {
         let count = bytes.len().min(ROOM - self.len);
         let end = self.len + count;
         self.bytes[self.len..end].copy_from_slice(&bytes[..count]);
         self.len = end;
         self.lines = self.lines.saturating_add(count_lines(bytes));
         self.text.note(bytes);
-        Ok(bytes.len())
     }
 }
 

@@ -43,7 +43,7 @@ pub use Rattle.rh_figure.specs.Scene.{Before, Scene, marks_of, scene_of}
 pub use Rattle.rh_figure.specs.Share.{AreaOf, Holding, IsShared, Share, SlotOf, count_of, holdings}
 pub use Rattle.rh_figure.specs.Whole.{AreShared}
 pub use Rattle.rh_figure.specs.declared.piece.Piece.{Piece}
-pub use Rattle.rh_lines.proofs.FlowLemmas.{takes_more, takes_none}
+pub use Rattle.rh_lines.proofs.FlowLemmas.{takes_more}
 pub use Rattle.rh_lines.specs.Flow.{Breaks, Output, Puts, Takes}
 pub use Rattle.rh_map.proofs.Left.{Left, left_less, left_none}
 pub use Rattle.rh_draw.proofs.WriteLemmas.{offered_as}

@@ -1,6 +1,6 @@
 -- A sheet from the lines that were taken, one after the other.
 use Rattle.rh_painted.proofs.Common.{◌≡◌, Bool, true, false, ◌||◌, List, [], ◌∷◌, ◌++◌, map, refl, sym, ap, ap₂, ◌∙◌, subst, append-nil, append_assoc, Option}
-use Rattle.rh_painted.proofs.Common.{is_err, list_any, Command, Meaning, line_means, Desk, Output, Takes, takes_none, takes_more, kept, kept_means, Share}
+use Rattle.rh_painted.proofs.Common.{is_err, list_any, Command, Meaning, line_means, Desk, kept, kept_means, Share}
 use Rattle.rh_painted.proofs.Common.{IsShared, Text, Place, Read, Stage, after_read, AreShared, Walk, behind_read, read_text, sheet_lines, Painter, PaintedLine}
 use Rattle.rh_painted.proofs.Common.{TookPaintedLine}
 use Rattle.rh_defs.specs.Script.{is_bad}
@@ -10,7 +10,7 @@ use Rattle.rh_figure.specs.Whole.{read_of}
 use Rattle.rh_drawn.proofs.MapLemmas.{after_reads, is_bad_read}
 use Rattle.rh_painted.specs.Painted.{front_lines}
 use Rattle.rh_painted.proofs.LineLemmas.{same-line}
-use Rattle.rh_painted.proofs.WalkLemmas.{Stands, place-behind, shared-there, stands-on, takes-there}
+use Rattle.rh_painted.proofs.WalkLemmas.{Stands, place-behind, shared-there, stands-on, text-there}
 
 -- ---- lines, and lines behind them
 
@@ -48,12 +48,12 @@ shared-more p ((q, u) ∷ rest) ys a b = (a.0, shared-more (after_read p q) rest
 
 -- ---- lines that a painter has taken
 
--- of some lines the sheet was written, and a painter stands behind them
-pub record PaintedAll {D : Type 0} (desk : D → Desk) (marked : Bool) (x : Walk) (reads : List Read) (bad : Bool) (n : Painter D) (o q : Output) : Type 0 where
+-- a text is what a sheet has of some lines, and a painter stands behind them
+pub record PaintedAll {D : Type 0} (desk : D → Desk) (marked : Bool) (x : Walk) (reads : List Read) (bad : Bool) (n : Painter D) (text : Text) : Type 0 where
   pub stages : List Stage
   pub lines : map read_of stages ≡ reads
   pub shared : AreShared x.place stages
-  pub written : Takes o q (front_lines marked x stages)
+  pub text_is : text ≡ front_lines marked x stages
   pub stands : Stands desk marked (walk_behind marked x stages) n
   pub bad_is : n.has_bad_line ≡ (bad || list_any is_bad_read reads)
 
@@ -65,22 +65,21 @@ either-first : (a b c : Bool) → ((a || b) || c) ≡ (a || (b || c))
 either-first true b c = refl
 either-first false b c = refl
 
-painted-none : {D : Type 0} {desk : D → Desk} {marked : Bool} {x : Walk} {m : Painter D} (o : Output) → Stands desk marked x m
-    → PaintedAll desk marked x [] m.has_bad_line m o o
-painted-none {m = m} o is = record {
+painted-none : {D : Type 0} {desk : D → Desk} {marked : Bool} {x : Walk} {m : Painter D} → Stands desk marked x m
+    → PaintedAll desk marked x [] m.has_bad_line m []
+painted-none {m = m} is = record {
   stages = [];
   lines = refl;
   shared = tt;
-  written = takes_none o;
+  text_is = refl;
   stands = is;
   bad_is = sym (or-false m.has_bad_line);
 }
 
-painted-more : {D : Type 0} {desk : D → Desk} {marked : Bool} {x : Walk} {m n l : Painter D} {o q u : Output} (line : Text) (meaning : Meaning
-    (Option Command)) (reads : List Read)
-    → Stands desk marked x m → (here : PaintedLine desk m o line meaning n q)
-    → PaintedAll desk marked (behind_read marked here.share x (line, meaning)) reads n.has_bad_line l q u
-    → PaintedAll desk marked x ((line, meaning) ∷ reads) m.has_bad_line l o u
+painted-more : {D : Type 0} {desk : D → Desk} {marked : Bool} {x : Walk} {m n l : Painter D} {a b : Text} (line : Text)
+    (meaning : Meaning (Option Command)) (reads : List Read) → Stands desk marked x m → (here : PaintedLine desk m line meaning n a)
+    → PaintedAll desk marked (behind_read marked here.share x (line, meaning)) reads n.has_bad_line l b
+    → PaintedAll desk marked x ((line, meaning) ∷ reads) m.has_bad_line l (a ++ b)
 painted-more {marked = marked} {x = x} {m = m} line meaning reads is here rest =
     let r : Read = (line, meaning) in
     let P : Place → Type 0 = λ z. AreShared z rest.stages in
@@ -88,22 +87,23 @@ painted-more {marked = marked} {x = x} {m = m} line meaning reads is here rest =
       stages = (r, here.share) ∷ rest.stages;
       lines = ap (λ rs. r ∷ rs) rest.lines;
       shared = (shared-there is here.share r here.shared, subst P (place-behind marked here.share x r) rest.shared);
-      written = takes_more (takes-there is here.share r here.written) rest.written;
+      text_is = ap₂ (λ x y. x ++ y) (here.text_is ∙ text-there is here.share r) rest.text_is;
       stands = rest.stands;
       bad_is = rest.bad_is ∙ (ap (λ b. b || list_any is_bad_read reads) here.follows.bad
           ∙ either-first m.has_bad_line (is_err meaning) (list_any is_bad_read reads));
     }
 
 -- all lines that were taken, as far as they are kept
-took-kept : {D : Type 0} {desk : D → Desk} {marked : Bool} (x : Walk) {m n : Painter D} {o q : Output} (lines : List Text) → Stands desk marked x m
-    → TookAll (TookPaintedLine desk) m o lines n q → PaintedAll desk marked x (map read_line lines) m.has_bad_line n o q
-took-kept {D} {desk} {marked} x {m} {n} {o} {q} [] is (a, b) =
-    let P : Painter D → Type 0 = λ z. PaintedAll desk marked x [] m.has_bad_line z o q in
-    let Q : Output → Type 0 = λ z. PaintedAll desk marked x [] m.has_bad_line m o z in
-    subst P a (subst Q b (painted-none o is))
-took-kept {D} {desk} {marked} x {m} {n} {o} {q} (line ∷ lines) is (k, u, one, rest) =
-    painted-more line (line_means line) (map read_line lines) is one
-    (took-kept (behind_read marked one.share x (read_line line)) lines (stands-on is one.share (read_line line) one.follows) rest)
+took-kept : {D : Type 0} {desk : D → Desk} {marked : Bool} (x : Walk) {m n : Painter D} {text : Text} (lines : List Text) → Stands desk marked x m
+    → TookAll (TookPaintedLine desk) m lines n text → PaintedAll desk marked x (map read_line lines) m.has_bad_line n text
+took-kept {D} {desk} {marked} x {m} {n} {text} [] is (a, b) =
+    let P : Painter D → Type 0 = λ z. PaintedAll desk marked x [] m.has_bad_line z text in
+    let Q : Text → Type 0 = λ z. PaintedAll desk marked x [] m.has_bad_line m z in
+    subst P a (subst Q (sym b) (painted-none is))
+took-kept {D} {desk} {marked} x {m} {n} {text} (line ∷ lines) is (k, a, b, one, rest, e) =
+    let Q : Text → Type 0 = λ z. PaintedAll desk marked x (map read_line (line ∷ lines)) m.has_bad_line n z in
+    subst Q (sym e) (painted-more line (line_means line) (map read_line lines) is one
+    (took-kept (behind_read marked one.share x (read_line line)) lines (stands-on is one.share (read_line line) one.follows) rest))
 
 -- ---- the lines themselves, not only as far as they are kept
 
@@ -165,18 +165,17 @@ bad-lines [] = refl
 bad-lines (l ∷ ls) = ap (λ b. is_bad l || b) (bad-lines ls)
 
 -- all lines that were taken, each whole
-pub took-lines : {D : Type 0} {desk : D → Desk} {marked : Bool} {x : Walk} {m n : Painter D} {o q : Output} (lines : List Text) → Stands desk marked x m
-    → TookAll (TookPaintedLine desk) m o (map kept lines) n q → PaintedAll desk marked x (map read_line lines) m.has_bad_line n o q
-took-lines {D} {desk} {marked} {x} {m} {n} {o} {q} lines is took =
+pub took-lines : {D : Type 0} {desk : D → Desk} {marked : Bool} {x : Walk} {m n : Painter D} {text : Text} (lines : List Text) → Stands desk marked x m
+    → TookAll (TookPaintedLine desk) m (map kept lines) n text → PaintedAll desk marked x (map read_line lines) m.has_bad_line n text
+took-lines {D} {desk} {marked} {x} {m} {n} lines is took =
     let painted = took-kept x (map kept lines) is took in
     let whole = wholes marked x lines painted.stages painted.lines painted.shared in
-    let P : Text → Type 0 = λ z. Takes o q z in
     let Q : Walk → Type 0 = λ z. Stands desk marked z n in
     record {
       stages = whole_stages lines painted.stages;
       lines = whole.reads;
       shared = whole.shared;
-      written = subst P (sym whole.text) painted.written;
+      text_is = painted.text_is ∙ sym whole.text;
       stands = subst Q (sym whole.after) painted.stands;
       bad_is = painted.bad_is ∙ ap (λ b. m.has_bad_line || b) (bad-kept lines ∙ sym (bad-lines lines));
     }

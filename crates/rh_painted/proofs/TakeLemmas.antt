@@ -1,16 +1,16 @@
 -- What a painter has done with a line as far as it is kept, and with what stands behind the last line feed.
 use Rattle.rh_painted.proofs.Common.{◌≡◌, ℕ, List, Bool, true, false, ◌||◌, [], ◌∷◌, ◌++◌, length, refl, sym, ap, ap₂, ◌∙◌, subst, arith, Option, Err, is_err}
-use Rattle.rh_painted.proofs.Common.{not, ◌==◌, OnErr, OnOk, Result, Command, LineFault, Desk, Meaning, line_means, IsReordered, rest_means, kept, kept_means}
-use Rattle.rh_painted.proofs.Common.{Share, IsShared, Text, Place, Read, after_read, Output, Puts, at_desk, Walk, behind_read}
+use Rattle.rh_painted.proofs.Common.{not, ◌==◌, Command, LineFault, Desk, Meaning, line_means, IsReordered, rest_means, kept, kept_means}
+use Rattle.rh_painted.proofs.Common.{Share, IsShared, Text, Place, Read, after_read, at_desk, Walk, behind_read}
 use Rattle.rh_painted.proofs.Common.{read_text, sheet_lines, Painter, PaintedLine, offered_as, walk_in}
 use Rattle.std.proofs.lemmas.Bool.{eqb-true}
 use Rattle.rh_drawn.proofs.RunLemmas.{kept_some}
-use Rattle.rh_drawn.proofs.StepLemmas.{on-err, on-ok}
+use Rattle.rh_feed.specs.Taken.{Gives}
 use Rattle.rh_feed.proofs.LineLemmas.{kept_nil}
 use Rattle.rh_figure.specs.Map.{read_rest}
 use Rattle.rh_sheet.specs.Sheet.{sheet_end}
 use Rattle.rh_painted.specs.Inner.PaintedSteps.{DrewLine, DrewRest}
-use Rattle.rh_painted.specs.PaintedWalks.{BrokePainting, BrokePaintedRest, TookPaintedRest}
+use Rattle.rh_painted.specs.PaintedWalks.{TookPaintedRest}
 use Rattle.rh_painted.proofs.LineLemmas.{SameRead, same-line, same-rest}
 use Rattle.rh_painted.proofs.RunLemmas.{kept-some}
 use Rattle.rh_drawn.proofs.TextPuts.{text_then}
@@ -107,23 +107,19 @@ module _ {D : Type 0} (desk : D → Desk) (m : Painter D) (rest : Text) (some : 
     bad = drew.follows.bad ∙ ap (λ b. m.has_bad_line || not b) (some ∙ sym (kept-some rest));
   }
 
--- ---- what the writer took of it
+-- ---- its text
 
-module _ {D E : Type 0} {desk : D → Desk} {m n : Painter D} {o p : List ℕ} (first last : Output) (r : Result Unit E) where
-  pub line-took : {line : Text} {meaning : Meaning (Option Command)} (drew : DrewLine desk m o line meaning n p)
-      → Puts first last r (read_text m.marked drew.share (walk_in desk m) (line, meaning)) → OnOk r (PaintedLine desk m first line meaning n last)
-  line-took drew puts =
-      on-ok r (λ takes. record { share = drew.share; shared = drew.shared; written = takes; follows = drew.follows }) puts.ok
+module _ {D : Type 0} {desk : D → Desk} {m n : Painter D} {o p : List ℕ} where
+  pub line-took : {line : Text} {meaning : Meaning (Option Command)} → DrewLine desk m o line meaning n p → Gives (PaintedLine desk m line meaning n) o p
+  line-took {line} {meaning} drew = record {
+    text = read_text m.marked drew.share (walk_in desk m) (line, meaning);
+    told = record { share = drew.share; shared = drew.shared; text_is = refl; follows = drew.follows };
+    offered = drew.offered;
+  }
 
-  pub line-broke : {line : Text} {meaning : Meaning (Option Command)} (drew : DrewLine desk m o line meaning n p)
-      → Puts first last r (read_text m.marked drew.share (walk_in desk m) (line, meaning)) → OnErr r (BrokePainting desk m first line meaning last)
-  line-broke drew puts = on-err r (λ breaks. record { share = drew.share; shared = drew.shared; broken = breaks }) puts.err
-
-  pub rest-took : {rest : List ℕ} (drew : DrewRest desk m o rest n p)
-      → Puts first last r (sheet_lines m.marked (walk_in desk m) drew.stages) → OnOk r (TookPaintedRest desk m first rest n last)
-  rest-took drew puts =
-      on-ok r (λ takes. record { stages = drew.stages; lines = drew.lines; shared = drew.shared; written = takes; bad = drew.bad }) puts.ok
-
-  pub rest-broke : {rest : List ℕ} (drew : DrewRest desk m o rest n p)
-      → Puts first last r (sheet_lines m.marked (walk_in desk m) drew.stages) → OnErr r (BrokePaintedRest desk m first rest last)
-  rest-broke drew puts = on-err r (λ breaks. record { stages = drew.stages; lines = drew.lines; shared = drew.shared; broken = breaks }) puts.err
+  pub rest-took : {rest : List ℕ} → DrewRest desk m o rest n p → Gives (TookPaintedRest desk m rest n) o p
+  rest-took drew = record {
+    text = sheet_lines m.marked (walk_in desk m) drew.stages;
+    told = record { stages = drew.stages; lines = drew.lines; shared = drew.shared; text_is = refl; bad = drew.bad };
+    offered = drew.offered;
+  }

@@ -1,6 +1,6 @@
 -- Where a sheet stands, but for the order of messages to different tasks.
 use Rattle.rh_painted.proofs.Common.{◌≡◌, Bool, true, List, refl, sym, ap, ap₂, ◌∙◌, subst, [], ◌∷◌, ◌++◌, Some, None, Ok, Err, Command, LineFault, Desk}
-use Rattle.rh_painted.proofs.Common.{IsReordered, with_queue, step, fault_text, Breaks, Output, Takes, Share, IsShared, Text, Before, marks_of, scene_of}
+use Rattle.rh_painted.proofs.Common.{IsReordered, with_queue, step, fault_text, Share, IsShared, Text, Before, marks_of, scene_of}
 use Rattle.rh_painted.proofs.Common.{Place, Read, Stage, after_read, AreShared, at_desk, Walk, behind_read, fault_happened, happened_text, read_text}
 use Rattle.rh_painted.proofs.Common.{sheet_lines, Painter, walk_in}
 use Rattle.rh_defs.specs.declared.reply.Reply.{Reply}
@@ -75,7 +75,7 @@ stands-place is = record {
 
 module _ {D : Type 0} {desk : D → Desk} {marked : Bool} {x : Walk} {m : Painter D} (is : Stands desk marked x m) (s : Share) (r : Read) where
   -- what is written of a line
-  text-there : read_text m.marked s (walk_in desk m) r ≡ read_text marked s x r
+  pub text-there : read_text m.marked s (walk_in desk m) r ≡ read_text marked s x r
   text-there = ap₂ (λ k w. read_text k s w r) is.marked_is is.walk_is ∙ read-alike marked s x r is.desk_is
 
   walk-there : behind_read m.marked s (walk_in desk m) r ≡ at_desk (after_read (walk_in desk m).place r).desk (behind_read marked s x r)
@@ -98,12 +98,6 @@ module _ {D : Type 0} {desk : D → Desk} {marked : Bool} {x : Walk} {m : Painte
   -- the pool is shared out as the sheet's desk says
   pub shared-there : IsShared s (after_read (walk_in desk m).place r).desk → IsShared s (after_read x.place r).desk
   shared-there shared = shared_alike s (after_alike x.place (walk_in desk m).place r (stands-place is)).desks shared
-
-  pub takes-there : {o q : Output} → Takes o q (read_text m.marked s (walk_in desk m) r) → Takes o q (read_text marked s x r)
-  takes-there {o} {q} t = let P : Text → Type 0 = λ z. Takes o q z in subst P text-there t
-
-  pub breaks-there : {o q : Output} → Breaks o q (read_text m.marked s (walk_in desk m) r) → Breaks o q (read_text marked s x r)
-  breaks-there {o} {q} t = let P : Text → Type 0 = λ z. Breaks o q z in subst P text-there t
 
 -- ---- the rest of a sheet
 

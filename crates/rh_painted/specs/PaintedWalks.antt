@@ -8,7 +8,6 @@ use Rattle.rh_figure.specs.Share.{Share, IsShared}
 use Rattle.rh_figure.specs.Phrases.{Text}
 use Rattle.rh_figure.specs.Map.{Read, Stage, after_read, place, read_rest}
 use Rattle.rh_figure.specs.Whole.{AreShared, read_of}
-use Rattle.rh_lines.specs.Flow.{Output, Takes, Breaks}
 use Rattle.rh_sheet.specs.declared.note.Note.{Note}
 use Rattle.rh_sheet.specs.SheetLaws.{at_desk}
 use Rattle.rh_sheet.specs.Sheet.{Walk, behind_read, read_text, sheet_lines}
@@ -49,37 +48,21 @@ pub record FollowsPainting {D : Type 0} (desk : D → Desk) (m : Painter D) (s :
   pub marked_is : n.marked ≡ m.marked
   pub bad : n.has_bad_line ≡ (m.has_bad_line || is_err r.1)
 
--- what a sheet has of one line of a script was written, with some share of the pool behind it
-pub record PaintedLine {D : Type 0} (desk : D → Desk) (m : Painter D) (o : Output) (line : Text) (meaning : Meaning (Option Command)) (n : Painter D) (p : Output) : Type 0 where
+-- this text is what a sheet has of one line of a script, with some share of the pool behind it
+pub record PaintedLine {D : Type 0} (desk : D → Desk) (m : Painter D) (line : Text) (meaning : Meaning (Option Command)) (n : Painter D) (text : Text) : Type 0 where
   pub share : Share
   pub shared : IsShared share (after_read (walk_in desk m).place (line, meaning)).desk
-  pub written : Takes o p (read_text m.marked share (walk_in desk m) (line, meaning))
+  pub text_is : text ≡ read_text m.marked share (walk_in desk m) (line, meaning)
   pub follows : FollowsPainting desk m share (line, meaning) n
 
--- the writer failed, and took a front of it
-pub record BrokePainting {D : Type 0} (desk : D → Desk) (m : Painter D) (o : Output) (line : Text) (meaning : Meaning (Option Command)) (p : Output) : Type 0 where
-  pub share : Share
-  pub shared : IsShared share (after_read (walk_in desk m).place (line, meaning)).desk
-  pub broken : Breaks o p (read_text m.marked share (walk_in desk m) (line, meaning))
-
 -- the same of a complete line
-abbrev pub TookPaintedLine : {D : Type 0} → (D → Desk) → Painter D → Output → List ℕ → Painter D → Output → Type 0
-TookPaintedLine desk m o line n p = PaintedLine desk m o line (line_means line) n p
+abbrev pub TookPaintedLine : {D : Type 0} → (D → Desk) → Painter D → List ℕ → Painter D → Text → Type 0
+TookPaintedLine desk m line n text = PaintedLine desk m line (line_means line) n text
 
-abbrev pub BrokePaintedLine : {D : Type 0} → (D → Desk) → Painter D → Output → List ℕ → Output → Type 0
-BrokePaintedLine desk m o line p = BrokePainting desk m o line (line_means line) p
-
--- the rest of the sheet was written, of what stands behind the last line feed
-pub record TookPaintedRest {D : Type 0} (desk : D → Desk) (m : Painter D) (o : Output) (rest : List ℕ) (n : Painter D) (p : Output) : Type 0 where
+-- it is the rest of the sheet, of what stands behind the last line feed
+pub record TookPaintedRest {D : Type 0} (desk : D → Desk) (m : Painter D) (rest : List ℕ) (n : Painter D) (text : Text) : Type 0 where
   pub stages : List Stage
   pub lines : map read_of stages ≡ read_rest rest
   pub shared : AreShared (walk_in desk m).place stages
-  pub written : Takes o p (sheet_lines m.marked (walk_in desk m) stages)
+  pub text_is : text ≡ sheet_lines m.marked (walk_in desk m) stages
   pub bad : n.has_bad_line ≡ (m.has_bad_line || not (length rest == 0))
-
--- the writer failed, and took a front of it
-pub record BrokePaintedRest {D : Type 0} (desk : D → Desk) (m : Painter D) (o : Output) (rest : List ℕ) (p : Output) : Type 0 where
-  pub stages : List Stage
-  pub lines : map read_of stages ≡ read_rest rest
-  pub shared : AreShared (walk_in desk m).place stages
-  pub broken : Breaks o p (sheet_lines m.marked (walk_in desk m) stages)

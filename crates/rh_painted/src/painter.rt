@@ -40,6 +40,9 @@ use rh_map::{Front, has_words};
 use rh_session::Status;
 use rh_sight::{Kept, Messages, PageList, Sender, is_still};
 
+/// So many bytes of a sheet's beginning are held at a time.
+const HEAD_ROOM: usize = 4_096;
+
 /// A sheet in the middle of its script: what is drawn, whether marked steps alone are shown, whether a line was bad,
 /// how far it has come, and what is kept of the last messages; and what a step is drawn with.
 #[derive(Drop)]
@@ -80,9 +83,10 @@ impl<D: Drawn> Painter<D> {
         ensures rest { self.new ≡ record self.old { pages = self.new.pages } }
     {
         self.drawn.page_list(&mut self.pages);
-        let mut pen = WriterPen::new(writer);
+        let mut room = [0; HEAD_ROOM];
+        let mut pen = WriterPen::new(writer, &mut room);
         print_head(name, self.pages.len() as u32, &mut pen);
-        pen.done()
+        pen.finish()
     }
 
     /// Shows a line that asks for nothing, and notes whether it marks the next command.
@@ -348,28 +352,19 @@ impl<D: Drawn> Painter<D> {
 
 impl<D: Drawn> LineTaker for Painter<D> {
     ghost use Rattle.std.specs.Prelude.{◌-◌, ◌^◌};
-    ghost use Rattle.rh_painted.specs.PaintedWalks.{BrokePaintedLine, BrokePaintedRest, TookPaintedLine};
-    ghost use Rattle.rh_painted.specs.PaintedWalks.{TookPaintedRest};
+    ghost use Rattle.rh_painted.specs.PaintedWalks.{TookPaintedLine, TookPaintedRest};
 
     ghost took = { TookPaintedLine D.desk };
 
-    ghost broke = { BrokePaintedLine D.desk };
-
     ghost took_rest = { TookPaintedRest D.desk };
-
-    ghost broke_rest = { BrokePaintedRest D.desk };
 
     ghost room = { λ m. 2 ^ 32 - 1 - m.progress.steps };
 
-    fn take_line<W: Sink>(&mut self, line: &[u8], writer: &mut W) -> Result<(), WriteFailed> {
-        let mut pen = WriterPen::new(writer);
-        self.paint_line(line, &mut pen);
-        pen.done()
+    fn take_line<P: Pen>(&mut self, line: &[u8], pen: &mut P) {
+        self.paint_line(line, pen);
     }
 
-    fn take_rest<W: Sink>(&mut self, rest: &[u8], writer: &mut W) -> Result<(), WriteFailed> {
-        let mut pen = WriterPen::new(writer);
-        self.paint_rest(rest, &mut pen);
-        pen.done()
+    fn take_rest<P: Pen>(&mut self, rest: &[u8], pen: &mut P) {
+        self.paint_rest(rest, pen);
     }
 }

@@ -8,10 +8,10 @@ ghost use Rattle.rh_lines.specs.Flow.{unread};
 ghost use Rattle.rh_painted.specs.Painted.{Painted, PaintedSoFar, PaintedUntil};
 
 use crate::painter::Painter;
-use rh_drawn::{Drawn, run_fault};
-use rh_feed::{feed_all, feed_whole};
+use rh_drawn::Drawn;
+use rh_feed::{PIECE, feed_all, feed_whole};
 use rh_lines::{Sink, Source, WriteFailed};
-use rh_session::{RunFault, Status};
+use rh_session::{RunFault, Status, run_fault};
 
 /// Runs a script with a name over what can be drawn, and writes its sheet: its beginning, and each step, or marked
 /// steps alone, each before it reads on. It gives up after 1,000,000 reads that gave bytes.
@@ -55,7 +55,8 @@ pub fn paint_script<D: Drawn, R: Source, W: Sink>(
     if painter.begin(name, writer).is_err() {
         return Err(RunFault::WriteFailed);
     }
-    match feed_all(&mut painter, reader, writer) {
+    let mut piece = [0; PIECE];
+    match feed_all(&mut painter, reader, &mut piece, writer) {
         Ok(()) => Ok(painter.status()),
         Err(fault) => Err(run_fault(fault)),
     }

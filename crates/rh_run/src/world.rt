@@ -7,8 +7,8 @@ ghost use Rattle.rh_defs.specs.Runs.{start};
 ghost use Rattle.rh_defs.specs.declared.sizes.TheConstants.{MAX_PAGES, MIN_PAGES};
 
 use rh_defs::{Command, Question, Reply};
-use rh_lines::{Sink, WriteFailed};
-use rh_script::print_answer;
+use rh_lines::Pen;
+use rh_script::put_answer;
 use rh_session::Desktop;
 use rh_store::Store;
 use rh_tasks::{NamedFiles, World};
@@ -42,11 +42,7 @@ impl<S: Store + Drop, F: NamedFiles + Drop> Desktop for ScriptWorld<S, F> {
         self.world.apply(command)
     }
 
-    fn print_answer<W: Sink>(
-        &self,
-        question: &Question,
-        writer: &mut W,
-    ) -> Result<(), WriteFailed> {
-        print_answer(&self.world, question, writer)
+    fn put_answer<P: Pen>(&self, question: &Question, pen: &mut P) {
+        put_answer(&self.world, question, pen);
     }
 }

@@ -27,9 +27,9 @@ pub fn print_reply<S: Store, F: NamedFiles, W: Sink>(
     ensures { Puts (W.output writer.old) (W.output writer.new) result
         (reply_text world.now.desk command.now reply.now) }
 {
-    let mut pen = WriterPen::new(writer);
+    let mut pen = WriterPen::new(writer, &mut []);
     put_reply(world, command, reply, &mut pen);
-    pen.done()
+    pen.finish()
 }
 
 /// Writes the reply to a command that was just applied, all its lines, over the desk after it. Only a reply that is
@@ -98,9 +98,9 @@ pub fn print_answer<S: Store, F: NamedFiles, W: Sink>(
     ensures { Puts (W.output writer.old) (W.output writer.new) result
         (answer_text (asked world.now.desk question.now)) }
 {
-    let mut pen = WriterPen::new(writer);
+    let mut pen = WriterPen::new(writer, &mut []);
     put_answer(world, question, &mut pen);
-    pen.done()
+    pen.finish()
 }
 
 /// Writes what the desk answers to a question, all its lines, or why it is refused.

@@ -7,6 +7,7 @@ mod cases;
 mod failing;
 mod forms;
 mod lines;
+mod offers;
 mod streams;
 
 use std::io::{self, Read};
@@ -18,5 +19,6 @@ fn main(rt: HostRuntime) -> io::Result<()> {
     let mut output = rt.stdout();
     cases::print_cases(alloc, rows.as_slice(), &mut output)?;
     failing::print_fronts(alloc, &mut output)?;
-    streams::print_streams(alloc, &mut output)
+    streams::print_streams(alloc, &mut output)?;
+    offers::print_offers(alloc, &mut output)
 }

@@ -4,11 +4,14 @@ use crate::answer::shown;
 use crate::row::Row;
 use crate::worlds::{command, said};
 use rh_defs::{Command, Numbers, Question, Refusal, Reply};
-use rh_lines::Held;
+use rh_lines::WholeText;
 use rh_script::{print_answer, print_reply};
 use rh_store::Store;
 use rh_tasks::{NamedFiles, World};
 use std::alloc::Global;
+
+/// More bytes than any of these replies has.
+const MOST_BYTES: usize = 65_536;
 
 /// The text of the answer to a question, which is that of its reply too; none where these differ.
 pub(crate) fn answer<S: Store, F: NamedFiles>(
@@ -57,9 +60,11 @@ fn printed_answer<S: Store, F: NamedFiles>(
     let Command::Ask(question) = command else {
         return None;
     };
-    let mut held = Held::new();
-    print_answer(world, question, &mut held).ok()?;
-    text(alloc, &held)
+    let mut bytes = [0; MOST_BYTES];
+    let mut text = WholeText::new(&mut bytes);
+    print_answer(world, question, &mut text).ok()?;
+    let length = text.length();
+    quoted(alloc, bytes.get(..length)?)
 }
 
 fn printed_reply<S: Store, F: NamedFiles>(
@@ -68,12 +73,14 @@ fn printed_reply<S: Store, F: NamedFiles>(
     command: &Command,
     reply: &Reply,
 ) -> Option<String> {
-    let mut held = Held::new();
-    print_reply(world, command, reply, &mut held).ok()?;
-    text(alloc, &held)
+    let mut bytes = [0; MOST_BYTES];
+    let mut text = WholeText::new(&mut bytes);
+    print_reply(world, command, reply, &mut text).ok()?;
+    let length = text.length();
+    quoted(alloc, bytes.get(..length)?)
 }
 
 /// What was printed, in quotes.
-fn text(alloc: Global, held: &Held) -> Option<String> {
-    shown(alloc, str::from_utf8(held.as_slice()).ok()?)
+fn quoted(alloc: Global, text: &[u8]) -> Option<String> {
+    shown(alloc, str::from_utf8(text).ok()?)
 }

@@ -8,7 +8,7 @@ pub returns : goal.returns
 returns c =
     let text = fault_text c.args.fault.now in
     let one = fault-one c.args.fault.now in
-    let whole = written c.print_fault-whole.result text c.clear.ensures c.print_fault-whole.ensures in
+    let whole = written c.clear.ensures c.put_fault.ensures in
     let count = one-counted text one (c.lines.ensures ∙ ap (λ t. min (length (ended t)) (2 ^ 32 - 1)) whole) in
     let P : ℕ → Type 0 = λ n. Excerpts (front_of text) n text in
     let Q : List ℕ → Type 0 = λ t. Excerpts (front_of t) c.lines.result text in

@@ -1,5 +1,5 @@
 use Rattle.std.proofs.Common.{◌∙◌, [], sym}
-use Rattle.rh_drawn.proofs.RunLemmas.{same_fault}
+use Rattle.rh_session.proofs.RunLemmas.{same_fault}
 use Rattle.rh_feed.proofs.FeedLemmas.{Consumes-none}
 use Rattle.rh_feed.specs.declared.fault.FeedFault.TheVariants as feed
 use Rattle.rh_painted.proofs.RunLemmas.{began, broke-off, painted, painted-head, painted-so-far, painted-until}
@@ -17,7 +17,7 @@ returns-in-Ok-clause-ok g c = λ d h.
     let alike = g.met.D.Drawn.alike _ d h in
     let start = began g.D.Sight.desk d alike c.args.name.now c.new-painter.result c.begin.new.self c.new-painter.ensures c.begin.ensures.rest c.begin.result
     (sym c.is_err.ensures.value ∙ c.if-is_err.false) c.begin.ensures.text in
-    painted c.args.name.now start.stands start.begun c.status.result start.well c.in-Ok.ensures.ok c.status.ensures
+    painted c.args.name.now start.stands start.well start.begun c.status.result c.in-Ok.ensures.ok c.status.ensures
 
 pub returns-clause-read_failed : goal.returns-clause-read_failed
 returns-clause-read_failed g c = λ e. c.in-Err.ensures.read_failed (same_fault feed.ReadFailed c.run_fault.ensures e)
@@ -27,7 +27,7 @@ returns-clause-read_painted g c = λ e d h.
     let alike = g.met.D.Drawn.alike _ d h in
     let start = began g.D.Sight.desk d alike c.args.name.now c.new-painter.result c.begin.new.self c.new-painter.ensures c.begin.ensures.rest c.begin.result
     (sym c.is_err.ensures.value ∙ c.if-is_err.false) c.begin.ensures.text in
-    painted-so-far c.args.name.now start.stands start.begun (c.in-Err.ensures.read_taken (same_fault feed.ReadFailed c.run_fault.ensures e))
+    painted-so-far c.args.name.now start.stands start.well start.begun (c.in-Err.ensures.read_taken (same_fault feed.ReadFailed c.run_fault.ensures e))
 
 pub returns-clause-too_long : goal.returns-clause-too_long
 returns-clause-too_long g c = λ e. c.in-Err.ensures.too_long (same_fault feed.TooLong c.run_fault.ensures e)
@@ -37,11 +37,11 @@ returns-clause-long_painted g c = λ e d h.
     let alike = g.met.D.Drawn.alike _ d h in
     let start = began g.D.Sight.desk d alike c.args.name.now c.new-painter.result c.begin.new.self c.new-painter.ensures c.begin.ensures.rest c.begin.result
     (sym c.is_err.ensures.value ∙ c.if-is_err.false) c.begin.ensures.text in
-    painted-so-far c.args.name.now start.stands start.begun (c.in-Err.ensures.long_taken (same_fault feed.TooLong c.run_fault.ensures e))
+    painted-so-far c.args.name.now start.stands start.well start.begun (c.in-Err.ensures.long_taken (same_fault feed.TooLong c.run_fault.ensures e))
 
 pub returns-clause-write_failed : goal.returns-clause-write_failed
 returns-clause-write_failed g c = λ e d h.
     let alike = g.met.D.Drawn.alike _ d h in
     let start = began g.D.Sight.desk d alike c.args.name.now c.new-painter.result c.begin.new.self c.new-painter.ensures c.begin.ensures.rest c.begin.result
     (sym c.is_err.ensures.value ∙ c.if-is_err.false) c.begin.ensures.text in
-    painted-until c.args.name.now start.stands start.begun (c.in-Err.ensures.write_failed (same_fault feed.WriteFailed c.run_fault.ensures e))
+    painted-until c.args.name.now start.stands start.well start.begun (c.in-Err.ensures.write_failed (same_fault feed.WriteFailed c.run_fault.ensures e))

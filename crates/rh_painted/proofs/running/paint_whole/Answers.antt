@@ -18,11 +18,11 @@ returns-in_err-feed_whole-clause-write_failed g c =
     let alike = g.met.D.Drawn.alike _ d h in
     let start = began g.D.Sight.desk d alike c.args.name.now c.new-painter.result c.begin.new.self c.new-painter.ensures c.in_ok-begin.ensures.rest
     (Ok c.in_ok-begin.field-0) refl c.in_ok-begin.ensures.text in
-    painted-until c.args.name.now start.stands start.begun c.in_err-feed_whole.ensures.write_failed)
+    painted-until c.args.name.now start.stands start.well start.begun c.in_err-feed_whole.ensures.write_failed)
 
 pub returns-clause-ok : goal.returns-clause-ok
 returns-clause-ok g c = λ d h.
     let alike = g.met.D.Drawn.alike _ d h in
     let start = began g.D.Sight.desk d alike c.args.name.now c.new-painter.result c.begin.new.self c.new-painter.ensures c.in_ok-begin.ensures.rest
     (Ok c.in_ok-begin.field-0) refl c.in_ok-begin.ensures.text in
-    painted c.args.name.now start.stands start.begun c.status.result start.well c.in_ok-feed_whole.ensures.ok c.status.ensures
+    painted c.args.name.now start.stands start.well start.begun c.status.result c.in_ok-feed_whole.ensures.ok c.status.ensures

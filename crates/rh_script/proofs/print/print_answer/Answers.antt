@@ -7,8 +7,9 @@ use Rattle.rh_script.proofs.print.print_answer.Goals as goal
 pub returns : goal.returns
 returns g c =
     let text = answer_text (asked c.args.world.now.desk c.args.question.now) in
-    let w = wrote c.new-pen.result c.put_answer.new.pen text c.put_answer.ensures in
-    let same = sym (w.same_reference ∙ c.new-pen.ensures.same_reference) in
-    let p = done_as c.new-pen.result c.put_answer.new.pen _ _ text c.done.result c.put_answer.ensures c.new-pen.ensures.begun c.new-pen.ensures.text
-    c.done.ensures in
+    let made = c.new-pen.ensures in
+    let offered = c.finish.ensures.same ∙ c.put_answer.ensures in
+    let w = wrote c.new-pen.result c.finish.new.self text offered in
+    let same = sym (w.same_reference ∙ made.same_reference) in
+    let p = done_as c.new-pen.result c.finish.new.self _ _ text c.finish.result offered made.begun made.text c.finish.ensures.written in
     search rules

@@ -7,7 +7,9 @@ pub returns-clause-text : goal.returns-clause-text
 returns-clause-text g c =
     let text = sheet_head c.args.name.now (g.D.Sight.desk c.args.self.now.drawn).pool in
     let head = offered_as _ (ap (λ n. sheet_head c.args.name.now n) (c.len.ensures.value ∙ c.page_list.ensures.all)) c.print_head.ensures in
-    let w = wrote c.new-pen.result c.print_head.new.pen text head in
-    let same = sym (w.same_reference ∙ c.new-pen.ensures.same_reference) in
-    let p = done_as c.new-pen.result c.print_head.new.pen _ _ text c.done.result head c.new-pen.ensures.begun c.new-pen.ensures.text c.done.ensures in
+    let made = c.new-pen.ensures in
+    let offered = c.finish.ensures.same ∙ head in
+    let w = wrote c.new-pen.result c.finish.new.self text offered in
+    let same = sym (w.same_reference ∙ made.same_reference) in
+    let p = done_as c.new-pen.result c.finish.new.self _ _ text c.finish.result offered made.begun made.text c.finish.ensures.written in
     search rules

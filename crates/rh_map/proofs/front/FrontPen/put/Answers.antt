@@ -1,6 +1,6 @@
 use Rattle.std.proofs.Common.{arith, rules}
 use Rattle.rh_map.proofs.FrontLemmas.{counted-more, kept-more}
-use Rattle.rh_map.proofs.front.FrontSink.write.Goals as goal
+use Rattle.rh_map.proofs.front.FrontPen.put.Goals as goal
 
 pub invariant_of-self : goal.invariant_of-self
 invariant_of-self c =
