@@ -29,8 +29,8 @@ returns-clause-ok g c =
     let last = offers_same c.finish.ensures.same c.take_rest.ensures in
     let all = offers_more going last in
     let same = sym ((wrote c.new-pen.result c.finish.new.self _ all).same_reference ∙ made.same_reference) in
-    let p = ok_so c.finish.result (λ takes. fed_all {last = g.T.LineTaker.took_rest} (unread []) c.take_rest.new.self c.as_slice.result.now going refl refl refl c.as_slice.ensures.value last
-    (told_by Takes c.new-pen.result c.finish.new.self _ _ made.begun made.text takes)) c.finish.ensures.written.ok in
+    let p = ok_so c.finish.result (λ takes. fed_all {last = g.T.LineTaker.took_rest} (unread []) c.take_rest.new.self c.as_slice.result.now going refl refl refl
+    c.as_slice.ensures.value last (told_by Takes c.new-pen.result c.finish.new.self _ _ made.begun made.text takes)) c.finish.ensures.written.ok in
     search rules
 
 pub returns-clause-write_failed : goal.returns-clause-write_failed
@@ -43,6 +43,6 @@ returns-clause-write_failed g c =
     let last = offers_same c.finish.ensures.same c.take_rest.ensures in
     let all = offers_more going last in
     let same = sym ((wrote c.new-pen.result c.finish.new.self _ all).same_reference ∙ made.same_reference) in
-    let p = err_so c.finish.result (λ breaks. fed_until_rest {last = g.T.LineTaker.took_rest} (unread []) c.take_rest.new.self c.as_slice.result.now going refl refl
-    c.as_slice.ensures.value last (told_by Breaks c.new-pen.result c.finish.new.self _ _ made.begun made.text breaks)) c.finish.ensures.written.err in
+    let p = err_so c.finish.result (λ breaks. fed_until_rest {last = g.T.LineTaker.took_rest} (unread []) c.take_rest.new.self c.as_slice.result.now going
+    refl refl c.as_slice.ensures.value last (told_by Breaks c.new-pen.result c.finish.new.self _ _ made.begun made.text breaks)) c.finish.ensures.written.err in
     search rules
