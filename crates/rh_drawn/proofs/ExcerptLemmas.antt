@@ -1,6 +1,6 @@
 -- Replies as they are kept: how many lines they have, and what their front shows.
 use Rattle.rh_drawn.proofs.Common.{◌≡◌, ℕ, zero, suc, ◌+◌, ◌/◌, ◌%◌, ◌<◌, ◌≤◌, Bool, true, false, eqb, refl, ap, ap₂, sym, subst, ◌∙◌, arith, List, [], ◌∷◌}
-use Rattle.rh_drawn.proofs.Common.{◌++◌, append-nil, append_assoc, length, take, drop, Some, None, Result, Ok, Err, codes, if◌then◌else◌, nat_le, nat_lt}
+use Rattle.rh_drawn.proofs.Common.{◌++◌, append-nil, append_assoc, length, take, drop, codes, if◌then◌else◌, nat_le, nat_lt}
 use Rattle.rh_drawn.proofs.Common.{◌==◌, decimal, AllByRecursion, ne_eqb, nat_tests, length-append, length-drop, LineFault, TooLong}
 use Rattle.rh_drawn.proofs.Common.{Reply, Nothing, ended, unended, fault_text, first_line, cut, Excerpts}
 use Rattle.std.specs.Fmt.{digit_glyph, digits, digits_onto}

@@ -1,10 +1,10 @@
 -- A whole map, from the lines that were taken.
 use Rattle.rh_drawn.proofs.Common.{◌≡◌, ◌⊎◌, inl, inr, ℕ, ◌<◌, ◌≤◌, Bool, true, false, ◌||◌, List, [], ◌∷◌, ◌++◌, length, map, take, refl, sym, ap, ap₂, ◌∙◌}
 use Rattle.rh_drawn.proofs.Common.{subst, append-nil, append_assoc, arith, ◌+◌, Option, Err, is_err, if◌then◌else◌, nat_lt, not, ◌==◌, list_any}
-use Rattle.rh_drawn.proofs.Common.{ne_eqb, length-take, map-append, Command, TooLong, Meaning, line_means, Desk, IsReordered, ended, unended, kept, Share}
+use Rattle.rh_drawn.proofs.Common.{ne_eqb, length-take, map-append, Command, TooLong, Meaning, Desk, IsReordered, ended, unended, kept, Share}
 use Rattle.rh_drawn.proofs.Common.{IsShared, Text, Place, after_read, lines_of_read, read_line, written_lines, Mapper}
-use Rattle.rh_drawn.proofs.Common.{Drew, TookLine, place_in}
-use Rattle.std.specs.Io.KnownBytes.{Consumes, IsAtEnd}
+use Rattle.rh_drawn.proofs.Common.{Drew, TookLine}
+use Rattle.std.specs.Io.KnownBytes.{IsAtEnd}
 use Rattle.rh_defs.specs.declared.fault.LineFault.TheVariants.{Unended}
 use Rattle.rh_defs.specs.Line.{longest_line}
 use Rattle.rh_defs.specs.Script.{has_bad_line, is_bad}
@@ -19,8 +19,8 @@ use Rattle.rh_session.specs.declared.status.Status.{Status}
 use Rattle.rh_drawn.specs.Mapped.{Mapped, MappedSoFar, MappedUntil}
 use Rattle.rh_drawn.specs.Deeds.{rest_means}
 use Rattle.rh_drawn.specs.DrawnPlaces.{IsFirst, TookRest}
-use Rattle.rh_drawn.proofs.ReadLemmas.{long_lines, same_read}
-use Rattle.rh_drawn.proofs.MapLemmas.{Drawn, Shows, Stands, after_alike, after_reads, is_bad_read, lines_alike, map_is, shared_alike, shows, stands_place}
+use Rattle.rh_drawn.proofs.ReadLemmas.{long_lines}
+use Rattle.rh_drawn.proofs.MapLemmas.{Drawn, Shows, Stands, after_reads, is_bad_read, map_is, shows}
 use Rattle.rh_drawn.proofs.MapLemmas.{took_lines, written_more}
 
 -- ---- one line more at the end

@@ -1,5 +1,5 @@
 -- A map behind one line: what its pen was offered, and where it stands.
-use Rattle.rh_drawn.proofs.Common.{◌≡◌, ℕ, ◌+◌, ◌<◌, Bool, true, false, ◌||◌, List, [], ◌∷◌, ◌++◌, append-nil, refl, sym, ap, ap₂, ◌∙◌, subst, length}
+use Rattle.rh_drawn.proofs.Common.{◌≡◌, ℕ, ◌+◌, Bool, true, false, ◌||◌, List, [], ◌∷◌, ◌++◌, append-nil, refl, sym, ap, ap₂, ◌∙◌, subst, length}
 use Rattle.rh_drawn.proofs.Common.{Option, Some, None, Ok, Err, ◌&&◌, if◌then◌else◌, is_err, not, ◌==◌, eqb-true, Command, LineFault}
 use Rattle.rh_drawn.proofs.Common.{Desk, Meaning, line_means, IsReordered, step, fault_text, kept, kept_means, Share, IsShared, Text, scene_of, Place}
 use Rattle.rh_drawn.proofs.Common.{Reply, after_read, arith}

@@ -1,6 +1,6 @@
 -- A whole sheet, from the lines that were taken.
 use Rattle.rh_painted.proofs.Common.{◌≡◌, ◌⊎◌, inl, inr, ℕ, Bool, true, false, ◌||◌, List, [], ◌∷◌, ◌++◌, length, map, take, refl, sym, ap, ap₂, ◌∙◌, subst}
-use Rattle.rh_painted.proofs.Common.{append-nil, append_assoc, arith, Err, Ok, Result, is_err, not, ◌==◌, list_any, ne_eqb, Desk, IsReordered, rest_means}
+use Rattle.rh_painted.proofs.Common.{append-nil, arith, Err, Ok, Result, is_err, not, ◌==◌, list_any, ne_eqb, Desk, IsReordered, rest_means}
 use Rattle.rh_painted.proofs.Common.{kept, IsShared, Text, Place, Read, Stage, after_read, AreShared, Output, Takes, Breaks, Puts, takes_more, Walk}
 use Rattle.rh_painted.proofs.Common.{behind_read, read_text, sheet_lines, Painter, TookPaintedLine}
 use Rattle.std.specs.Io.KnownBytes.{Consumes, IsAtEnd}

@@ -41,7 +41,7 @@ use rh_session::Status;
 use rh_sight::{Kept, Messages, PageList, Sender, is_still};
 
 /// So many bytes of a sheet's beginning are held at a time.
-const HEAD_ROOM: usize = 4_096;
+const HEAD_ROOM: usize = 16_384;
 
 /// A sheet in the middle of its script: what is drawn, whether marked steps alone are shown, whether a line was bad,
 /// how far it has come, and what is kept of the last messages; and what a step is drawn with.

@@ -9,7 +9,7 @@ use borrow.Author.Tests.{tests}
 use Rattle.rh_defs.specs.declared.command.Command.{Command}
 use Rattle.rh_defs.specs.Line.{Meaning, line_means, longest_line}
 use Rattle.rh_defs.specs.Desk.{Desk}
-use Rattle.rh_defs.specs.Script.{ended, ended_text, has_bad_line, is_bad, line_desk, lines_desk, lines_text, meaning_desk, meaning_text, rest_text, script_text}
+use Rattle.rh_defs.specs.Script.{ended, has_bad_line, is_bad, line_desk, lines_desk, lines_text, meaning_desk, meaning_text, rest_text, script_text}
 use Rattle.rh_defs.specs.Script.{unended}
 use Rattle.rh_defs.specs.Text.{fault_text}
 use Rattle.rh_defs.specs.declared.fault.LineFault.TheVariants.{TooLong}

@@ -1,4 +1,4 @@
-use Rattle.rh_drawn.proofs.Common.{◌∙◌, Meaning, Option, Command, subst, sym}
+use Rattle.rh_drawn.proofs.Common.{Meaning, Option, Command, subst, sym}
 use Rattle.rh_drawn.specs.Inner.StepsShown.{Offers}
 use Rattle.rh_drawn.proofs.StepLemmas.{rest-none, took-rest}
 use Rattle.rh_drawn.proofs.mapper.MapperLineTaker.take_rest.Goals as goal
