@@ -158,6 +158,9 @@ static VF_INLINE const char *vf_status_text(uint32_t status)
     }
 }
 
+/* The version of the library that the program is linked with, a number as VF_VERSION_NUMBER is. It answers no status. */
+uint32_t vf_version(void);
+
 /* ---- Duties of the caller -----------------------------------------------------------------------------------------
  *
  * What no call can see, and each relies on:

@@ -77,6 +77,7 @@ STATUSES = {
 
 # What each call takes: p a pointer, z a size_t, d a ptrdiff_t, u and i 32 bits without and with a sign, b a bool.
 CALLS = {
+    "vf_version": "",
     "vf_heap_init": "pz", "vf_heap_check": "pz", "vf_heap_checked_describe": "pzpp", "vf_heap_checked_claim": "pzzp",
     "vf_heap_checked_release": "pzz", "vf_heap_checked_resize": "pzzdp", "vf_heap_checked_extend": "pzd",
     "vf_heap_checked_block_size": "pzzp",
@@ -155,6 +156,12 @@ def _loaded():
 
 
 _LIBRARY = _loaded()
+
+
+def version():
+    """The version of the library, as its three numbers."""
+    number = _LIBRARY.vf_version()
+    return number // 10_000, number // 100 % 100, number % 100
 
 
 def _done(name, *arguments):

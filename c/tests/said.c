@@ -47,6 +47,7 @@ static void versions_agree(void)
     unsigned first = 0, second = 0, third = 0;
     EXPECT(sscanf(VF_VERSION, "%u.%u.%u", &first, &second, &third) == 3);
     EXPECT(VF_VERSION_NUMBER == 10000 * first + 100 * second + third);
+    EXPECT(vf_version() == VF_VERSION_NUMBER);
 #if VF_VERSION_NUMBER < 10000
     EXPECT(0);
 #endif

@@ -84,7 +84,7 @@ def prototypes(texts):
     for told, name, parameters, result in (it for text in texts.values() for it in EXPORT.findall(text)):
         pairs = [it.split(":", 1) for it in parameters.split(",") if it.strip()]
         words = [word for name_, declared in pairs for word in in_c(name_.strip(), declared.strip())]
-        found[name] = (f"{TYPES[result]} {name}({', '.join(words)});", CALL_OF_SYSTEM.findall(told))
+        found[name] = (f"{TYPES[result]} {name}({', '.join(words) or 'void'});", CALL_OF_SYSTEM.findall(told))
     return found
 
 
@@ -296,6 +296,7 @@ SLIPS = [
     ('text(VF_OPEN, "the desk is open already")', 'text(VF_CLOSED, "the desk is open already")'),
     ('#define VF_VERSION "', '#define VF_VERSION "1'),
     ("#define VF_VERSION_NUMBER 1", "#define VF_VERSION_NUMBER 2"),
+    ("uint32_t vf_version(void);", "uint32_t vf_version(uint32_t known);"),
 ]
 
 

@@ -11,3 +11,4 @@ mod image;
 mod indexed;
 mod plain;
 mod status;
+mod version;
