@@ -62,6 +62,14 @@ def test_bash(suite):
     suite.is_true("bash: pages", len(runs) > 1 and not any(runs))
 
 
+def is_there(program, what):
+    """Whether the machine has a program; else what is left out is told."""
+    if shutil.which(program):
+        return True
+    print(f"{program}: isn't installed, {what} left out")
+    return False
+
+
 def by_fish(*words):
     """What fish offers for the last word."""
     line = " ".join(("vervainfile", *words))
@@ -71,7 +79,7 @@ def by_fish(*words):
 
 def test_fish(suite):
     """In fish each command and its options are offered, and nothing else."""
-    if not shutil.which("fish"):
+    if not is_there("fish", "its completions"):
         return
     suite.is_true("fish: the first word", by_fish("") == verbs_of(suite))
     suite.is_true("fish: options", by_fish("-") == options_of(suite))
@@ -96,7 +104,7 @@ def by_zsh(state, verb=""):
 
 def test_zsh(suite):
     """In zsh each command and its options are offered, and nothing else."""
-    if not shutil.which("zsh"):
+    if not is_there("zsh", "its completions"):
         return
     top = by_zsh("verb")
     suite.is_true("zsh: commands", {it.split(":")[0] for it in top if re.match(r"\w+:", it)} >= verbs_of(suite))
@@ -130,7 +138,7 @@ def test_man_page(suite):
 
 def test_man_page_is_laid_out(suite):
     """The man page is laid out with no warning."""
-    if not shutil.which("groff"):
+    if not is_there("groff", "the layout of the man page"):
         return
     found = subprocess.run(["groff", "-man", "-ww", "-Tascii", PAGE], capture_output=True, check=False)
     suite.is_true("man page: layout", found.returncode == 0 and found.stderr == b"" and found.stdout.count(b"\n") > 60)
