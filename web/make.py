@@ -126,8 +126,8 @@ def text_of(name):
 
 
 def topics():
-    """The examples about each topic by their names, with their titles, as README.md has them."""
-    table = (TOP / "README.md").read_text().partition("| About | Scripts |\n")[2].partition("\n\n")[0]
+    """The examples about each topic by their names, with their titles, as examples/README.md has them."""
+    table = (TOP / "examples/README.md").read_text().partition("| About | Scripts |\n")[2].partition("\n\n")[0]
     rows = re.findall(r"^\| ([a-z].*?) \| (.*?) \|$", table, re.MULTILINE)
     return {topic.capitalize(): {name: f"{name}: {title}" for name, title in re.findall(r"`([^`]+)` \((.*?)\)", names)}
             for topic, names in rows}
@@ -141,7 +141,7 @@ def examples():
     titled = topics()
     groups = {"First": titled.pop("First", {}), "Lessons": lessons(), **titled}
     for name in sorted(names.difference(*groups.values())):
-        raise PageFault(f"README.md has no title for examples/{name}.desk")
+        raise PageFault(f"examples/README.md has no title for examples/{name}.desk")
     return [{"label": label, "examples": [{"name": name, "title": title, **example_of(folder / f"{name}.desk")}
                                           for name, title in group.items()]} for label, group in groups.items()]
 

@@ -138,9 +138,9 @@ def check_tables(_bench):
                 unittest.mock.patch.object(make, "TOP", folder):
             same(fault_of(make.PageFault, make.questions), f"docs/LESSONS.md has a check that can't be read: {told}",
                  f"what is told of {check}")
-    with written(README_md="| About | Scripts |\n|---|---|\n| b | `b` (a b) |\n", examples__a_desk="areas\n",
+    with written(examples__README_md="| About | Scripts |\n|---|---|\n| b | `b` (a b) |\n", examples__a_desk="areas\n",
                  docs__LESSONS_md="") as folder, unittest.mock.patch.object(make, "TOP", folder):
-        same(fault_of(make.PageFault, make.examples), "README.md has no title for examples/a.desk", "what is told")
+        same(fault_of(make.PageFault, make.examples), "examples/README.md has no title for examples/a.desk", "what is told")
     with written(page_html="<p>nothing</p>") as folder:
         told = fault_of(make.PageFault, lambda: make.module_of(folder / "page.html"))
         same(told, "page.html holds no module", "what is told of no module")

@@ -221,10 +221,10 @@ def check_link_by_hand(bench):
 
 
 def check_offered(bench):
-    """Each example is offered once: lessons with their numbers, others by what README.md says they are about."""
+    """Each example is offered once: lessons with their numbers, others by their topics in examples/README.md."""
     names = {str(it.relative_to(TOP / "examples").with_suffix(""))
              for part in ("*.desk", "lessons/*.desk") for it in (TOP / "examples").glob(part)}
-    table = (TOP / "README.md").read_text().partition("| About | Scripts |")[2].partition("\n\n")[0]
+    table = (TOP / "examples/README.md").read_text().partition("| About | Scripts |")[2].partition("\n\n")[0]
     topics = {row.split("|")[1].strip().capitalize(): re.findall("`(.*?)`", row) for row in table.splitlines()[2:]}
     lessons = re.findall(r"^## (\d)\. ", (TOP / "docs/LESSONS.md").read_text(), re.MULTILINE)
     with bench.kept_page() as page:
