@@ -2,8 +2,8 @@
 
 ghost use Rattle.rh_laws.specs.SendersDone.{AlwaysMatches};
 
-/// Where a sender's record says Done, each record of the transfer is Done with the same count, or Failed, or its last
-/// transmit is queued. So a receiver that polls and is refused nothing has the whole file. None waits for a file.
+/// Where a sender's record says Done, each record that comes in under its id is Done with the same count, or Failed, or
+/// its last transmit is queued. Once only polls follow, rounds of them leave each Done with that count, or Failed.
 pub fn done_law()
     ensures { AlwaysMatches }
 {}
