@@ -446,34 +446,34 @@ def check_print_of_many(bench):
         same(found, [400, 1000, 400], "how many lines have rows before, on and after paper")
 
 
-# The milliseconds of each step of the script, up to where its picture has its place.
-STEP_TIMES = """(() => {
+# Goes through all steps, up to where the picture of each has its place, and gives how many there are.
+WALK = """(() => {
   const step = document.querySelector('#step');
-  const times = [];
-  while (step.ariaDisabled === null) {
-    const start = performance.now();
+  let count = 0;
+  for (; step.ariaDisabled === null; count++) {
     step.click();
     document.querySelector('#picture').getBoundingClientRect();
-    times.push(performance.now() - start);
   }
-  return times.sort((one, other) => one - other);
+  return count;
 })()"""
-# So long most steps may take, in the quickest of some walks: the machine may have other work.
+# So many milliseconds of a processor a step may take, on average.
 MOST_OF_STEP = 60
-WALKS = 3
+
+
+def busy_seconds(page):
+    """How long a processor has worked for the page, whatever else the machine does."""
+    metrics = page.tab.call("Performance.getMetrics")["metrics"]
+    return next(it["value"] for it in metrics if it["name"] == "TaskDuration")
 
 
 def check_quick_steps(bench):
-    """A step of a lesson, and of a longer example, is drawn within 60 milliseconds, as most of its like."""
+    """A step of a lesson, and of a longer example, is drawn within 60 milliseconds of a processor."""
     with bench.page() as page:
+        page.tab.call("Performance.enable", timeDomain="threadTicks")
         for name in ("lessons/small-buffer", "lessons/death", "lessons/sliding", "eight-transfers"):
             page.load(name)
-            walks = []
-            for _ in range(WALKS):
-                page.value("document.querySelector('#slider').value = 0;"
-                           "document.querySelector('#slider').dispatchEvent(new Event('input'))")
-                walks.append(page.value(STEP_TIMES))
-            times = min(walks, key=sum)
-            middle = times[len(times) // 2]
-            print(f"  {name}: {len(times)} steps, half of them within {middle:.0f} ms, all within {times[-1]:.0f}")
-            holds(middle <= MOST_OF_STEP, f"half of the steps of {name} take more than {middle:.0f} ms")
+            start = busy_seconds(page)
+            count = page.value(WALK)
+            took = 1000 * (busy_seconds(page) - start) / count
+            print(f"  {name}: {count} steps, each {took:.0f} ms of a processor")
+            holds(1 < took <= MOST_OF_STEP, f"a step of {name} takes {took:.0f} ms")
