@@ -10,7 +10,8 @@ import make
 # The least contrast of text to what is behind it.
 LEAST_CONTRAST = 4.5
 # The examples whose pictures are looked at for contrast.
-COLOURED = ("transfer", "handed-over", "eight-transfers", "killed", "made-areas", "sliding", "lessons/holes")
+COLOURED = ("transfer", "handed-over", "eight-transfers", "killed", "made-areas", "sliding", "lessons/holes",
+            "lessons/first-fit")
 # Wide blocks and cards in the tints of six tasks.
 TINTS = "".join(f"task {it} 9\nalloc {it} 0 2000\nalloc {it} 1 900\nclaim {it} 900\n" for it in "abcdef")
 # The width of windows, and how much larger all is shown in them.
