@@ -1,4 +1,4 @@
--- Each act on a message, so that each record waits after it.
+-- Each act on a message is one deed, so that what each deed leaves holds after it.
 use Rattle.rh_laws.proofs.Common.{Acknowledge, Active, Asked, Body, Bool, Desk, Flex, Handled, Has, List, None, Option, Parcel, Recorded, Scrap, Sending, Some}
 use Rattle.rh_laws.proofs.Common.{Split, Taking, Task, User, [], action_of, and_left, and_right, answers_none, ap, arith, eq-eqb, false, field_is, handled}
 use Rattle.rh_laws.proofs.Common.{if◌then◌else◌, in_id, inl, inr, is_equal, leb_tells, leb_yes, length, live_of, nat_eq, nat_le, nat_lt, next_ref, none_some}
@@ -147,7 +147,8 @@ module _ (Q : sight.Desk → Type 0) {o : Offers} {e : Edits} (d : Desk) (t : Ta
       both _ _ (eq-eqb m.message.from x.recipient (a.tells refl).0) (eq-eqb m.message.your_ref x.last a.refs)
   would-open false (body.RamFetch buffer n) x a = by (a.tells refl).1
     where
-      by : Tells (reply x.last x.recipient) (D.buf k) (D.file k) D.scrap (M (body.RamFetch buffer n)) → is_for_open d t m false (body.RamFetch buffer n) x ≡ true
+      by : Tells (reply x.last x.recipient) (D.buf k) (D.file k) D.scrap (M (body.RamFetch buffer n)) →
+          is_for_open d t m false (body.RamFetch buffer n) x ≡ true
       by (inl kind) = absurd (let z : action.RamFetch ≡ action.DataLoadAck = kind in (cc))
       by (inr z) = both _ _ (ap not (sym (field_is (λ y. answers_none y.manner) false k d.tasks t is) ∙ z.0))
           (both _ _ (both _ _ (eq-eqb m.message.from x.recipient (a.tells refl).0) (eq-eqb m.message.your_ref x.last a.refs)) (leb_yes 1 n z.1.1))
@@ -181,8 +182,9 @@ module _ (Q : sight.Desk → Type 0) {o : Offers} {e : Edits} (d : Desk) (t : Ta
   open-last true (body.DataLoad y) x p = (sym (is_equal _ _ p), (refl, refl))
   open-last true (body.RamTransmit y n) x p = (sym (is_equal _ _ p), (refl, refl))
   open-last false (body.DataSaveAck y) x p =
-      let z = and_left _ (nat_eq x.id x.last) p in
-      (is_equal _ _ (and_right (nat_eq m.message.from x.recipient) _ z) ∙ is_equal _ _ (and_right (nat_eq m.message.from x.recipient && nat_eq m.message.your_ref x.id) _ p), (refl, refl))
+      let id = is_equal _ _ (and_right (nat_eq m.message.from x.recipient) _ (and_left _ (nat_eq x.id x.last) p)) in
+      let last = is_equal _ _ (and_right (nat_eq m.message.from x.recipient && nat_eq m.message.your_ref x.id) _ p) in
+      (id ∙ last, (refl, refl))
   open-last false (body.DataLoadAck y) x p = (is_equal _ _ (and_right (nat_eq m.message.from x.recipient) _ p), (refl, refl))
   open-last false (body.RamFetch y n) x p =
       (is_equal _ _ (and_right (nat_eq m.message.from x.recipient) _ (and_left _ (nat_le 1 n) (and_right (not (answers_none t.manner)) _ p))), (refl, refl))
@@ -305,8 +307,8 @@ module _ (Q : sight.Desk → Type 0) {o : Offers} {e : Edits} (d : Desk) (t : Ta
   tells-file y g n kind code load (file r p) room c a = (kind, (code, (g, (refl, load))))
   tells-file y g n kind code load (reply r p) room c a = un (asks-fits (reply r p) room c (letter_of m (body.DataSaveAck y)) a)
 
-  tells-loaded : (y : FileData) (n : Message) → n.letter.kind ≡ action.DataLoadAck → (v : Want) (room : ℕ) (c : Bool) → Asks v room c (letter_of m (body.DataLoad y)) →
-      Tells v room c None n
+  tells-loaded : (y : FileData) (n : Message) → n.letter.kind ≡ action.DataLoadAck → (v : Want) (room : ℕ) (c : Bool) →
+      Asks v room c (letter_of m (body.DataLoad y)) → Tells v room c None n
   tells-loaded y n kind (part r p u) room c a = un (asks-fits (part r p u) room c (letter_of m (body.DataLoad y)) a)
   tells-loaded y n kind (file r p) room c a = un (asks-fits (file r p) room c (letter_of m (body.DataLoad y)) a)
   tells-loaded y n kind (reply r p) room c a = inl kind
@@ -315,8 +317,8 @@ module _ (Q : sight.Desk → Type 0) {o : Offers} {e : Edits} (d : Desk) (t : Ta
   recorded e = let z : Recorded ≡ Acknowledge = e in (cc)
 
   -- the scrap file that the message loads is gone
-  gone : {file_ : Scrap} (code : is_back m.code ≡ false) (b : Body) → d.scrap ≡ Some file_ → file_.load ≡ m.message.my_ref → (g : sight.Scrap) → D.scrap ≡ Some g →
-      (None ≡ Some g) ⊎ ((g.load ≡ m.message.my_ref) × Unread (M b))
+  gone : {file_ : Scrap} (code : is_back m.code ≡ false) (b : Body) → d.scrap ≡ Some file_ → file_.load ≡ m.message.my_ref →
+      (g : sight.Scrap) → D.scrap ≡ Some g → (None ≡ Some g) ⊎ ((g.load ≡ m.message.my_ref) × Unread (M b))
   gone {file_} code b there load g e =
       let same : seen_scrap file_ ≡ g = same_value D.scrap (ap (option_map seen_scrap) there) e in
       inr (ap (λ (y : sight.Scrap). y.load) (sym same) ∙ load, not-back m.code code)
@@ -406,7 +408,8 @@ module _ (Q : sight.Desk → Type 0) {o : Offers} {e : Edits} (d : Desk) (t : Ta
       (λ q has a. unlike (sym (free.asking q (subst (Has (Asking q)) takings has)) ∙ would-asking back b q a)))
       (no-out back code b bf (λ x has a. unlike (sym (free.open_ x (subst (Has (Open x)) sendings has)) ∙ would-open back b x a)))
   act-waits {back} {b} (fails x y it why) code bf tk =
-      shut-out b bf x (Out_failed x.id x.count) refl refl (outs_view d k (sender.sending_failed x) live) (out-none back code b bf x it) (out-own back code b bf x it) tt
+      shut-out b bf x (Out_failed x.id x.count) refl refl (outs_view d k (sender.sending_failed x) live) (out-none back code b bf x it)
+      (out-own back code b bf x it) tt
   act-waits (finishes {file = f} x s it there) code bf tk =
       let b : Body = body.DataLoadAck f in
       shut-out b bf x (Out_done x.id (length s.here.bytes)) refl refl (outs_view d k (sender.sending_loaded x (length s.here.bytes)) live)
@@ -468,7 +471,8 @@ module _ (Q : sight.Desk → Type 0) {o : Offers} {e : Edits} (d : Desk) (t : Ta
   act-waits (takes_full {buffer = buffer} {n = size} f longer sent it l full s) code bf tk =
       let b : Body = body.RamTransmit buffer size in
       let g : Taking = record { id = f.id; sender = f.sender; anchor = f.anchor; buffer = f.buffer; count = f.count + size; fetch = D.next_ref } in
-      let from : m.message.from ≡ f.sender = is_equal _ _ (and_left (nat_eq m.message.from f.sender) _ (and_left _ (nat_eq buffer f.buffer) (and_left _ (nat_le size t.buffer) it.passes))) in
+      let from : m.message.from ≡ f.sender =
+      is_equal _ _ (and_left (nat_eq m.message.from f.sender) _ (and_left _ (nat_eq buffer f.buffer) (and_left _ (nat_le size t.buffer) it.passes))) in
       let n : Message = record {
         code = Recorded;
         to = f.sender;
@@ -530,5 +534,6 @@ module _ (Q : sight.Desk → Type 0) {o : Offers} {e : Edits} (d : Desk) (t : Ta
       (gone code b w.there w.names)
 
   -- a message that was taken
-  pub handled-waits : Ready Q D k (M m.message.body) → ((m.code ≡ Acknowledge → ⊥) → Taken o e D k (letter_of m m.message.body)) → Q (view (handled d t m m.code).0)
+  pub handled-waits : Ready Q D k (M m.message.body) → ((m.code ≡ Acknowledge → ⊥) → Taken o e D k (letter_of m m.message.body)) →
+      Q (view (handled d t m m.code).0)
   handled-waits bf tk = act-waits (handled-acts d t m m.code) refl bf (λ came. tk (not-back m.code came))
