@@ -2,7 +2,8 @@
 use Rattle.rh_laws.proofs.Common.{◌≡◌, ◌≢◌, ℕ, ◌+◌, ◌<◌, ◌≤◌, Bool, true, false, not, List, [], ◌∷◌, ◌++◌, length, Option, Some, None, ◌-◌, refl, sym, ap}
 use Rattle.rh_laws.proofs.Common.{◌∙◌, subst, ◌⊎◌, inl, inr, arith, take, drop, length-take, ◌==◌, find, filter, ℤ, Ok, option_map, eqb_tells}
 use Rattle.rh_laws.proofs.Common.{length-replicate, Command, Manner, Reply, Incoming, Refusal, NotOpen, Granted, or_else, with_heap_bytes, IsDesk, Rise}
-use Rattle.rh_laws.proofs.Common.{bytes_of, Split, zeros, all_in_range, in_range, Segment, Used, Hole, block_room, first_place, Parcel, post_poll, in_id, is_buffer_of, Slot}
+use Rattle.rh_laws.proofs.Common.{bytes_of, Split, zeros, all_in_range, in_range, Segment, Used, Hole, block_room, first_place, Parcel, post_poll, in_id}
+use Rattle.rh_laws.proofs.Common.{is_buffer_of, Slot}
 use Rattle.rh_laws.proofs.Common.{heap_start, slot_begin, Desk, Task, has_name, named, next_ref, task_at, with_delivered, with_slot, Answer, start_task, kill}
 use Rattle.rh_laws.proofs.Common.{alloc, load, put, free, extend, mid, claim, release, resize, budge, after, start_with, save, repeat, poll, poll_taken}
 use Rattle.rh_laws.proofs.Common.{cancel_in, cancel_out, event, step, handled, OnGrant, granted, granted-past, granted-then, granted-unless, granted-with}

@@ -1,22 +1,17 @@
 -- The calls on a slot that transfers and commands on the C heap make, as its map of blocks and their sizes.
-use Rattle.rh_laws.proofs.Common.{length-append, length-drop, length-take, ◌≡◌, ℕ, ◌+◌, ◌-◌, ◌<◌, ◌≤◌, Bool, true, false, List, length, Option, Some, None}
-use Rattle.rh_laws.proofs.Common.{refl, sym, ap, ◌∙◌, subst, inl, inr, arith, ℤ, nat_le, if◌then◌else◌, Ok, Err, option_map, eqb_tells, leb_tells, NotABlock}
-use Rattle.rh_laws.proofs.Common.{Granted, ◌>>=◌, found_or, Split, total, written, moved, Segment, Used, Hole, Heap, Placed, size_of, first_place}
-use Rattle.rh_laws.proofs.Common.{place_after, block_around, block_room, raised, bytes_of, fitted, segment_size, way_to, new_size, resize_need}
-use Rattle.rh_laws.proofs.Common.{resize_growing, Flex, Slot, heap_start, heap_block_at, with_placed, slot_release, slot_resize, buffer_at, with_heap_bytes}
-use Rattle.rh_laws.proofs.Common.{written_in, without_buffer, buffers_of, Same, is_found, ok_is, and_left, and_right}
-use Rattle.rh_defs.specs.Chain.{result_or}
+use Rattle.rh_laws.proofs.Common.{length-append, length-drop, length-take, ◌≡◌, ℕ, ◌+◌, ◌-◌, ◌≤◌, Bool, true, false, List, length, Option, Some, None}
+use Rattle.rh_laws.proofs.Common.{refl, sym, ap, ◌∙◌, inl, inr, arith, nat_le, if◌then◌else◌, eqb_tells, leb_tells}
+use Rattle.rh_laws.proofs.Common.{Split, total, written, Segment, Used, Hole, size_of, first_place}
+use Rattle.rh_laws.proofs.Common.{place_after, block_around, bytes_of}
+use Rattle.rh_laws.proofs.Common.{Flex, Slot, heap_start, heap_block_at, buffer_at, with_heap_bytes}
+use Rattle.rh_laws.proofs.Common.{written_in, buffers_of, and_left, and_right}
 use Rattle.rh_defs.specs.Pieces.{with_here}
-use Rattle.rh_defs.specs.Heap.{is_around, is_block_at, released, resized_by}
+use Rattle.rh_defs.specs.Heap.{is_around, is_block_at}
 use Rattle.rh_defs.specs.Slot.{with_heap, flex_around}
 use Rattle.rh_defs.specs.Places.{roomy_in, written_around, written_heap}
-use Rattle.rh_safety.proofs.HeapMap.{bytes_at, heap_map, CanGo, IsMoved}
-use Rattle.rh_safety.proofs.SeenTasks.{unput}
-use Rattle.rh_safety.proofs.SeenBlocks.{from_bind}
-use Rattle.rh_safety.proofs.SeenHeaps.{cut_is, gone_map, length_fitted, release_is, shifted, used_is, can_go, fitted_same, placed_high, shifted_twice}
-use Rattle.rh_safety.proofs.SeenDocuments.{buffer_is}
+use Rattle.rh_safety.proofs.HeapMap.{bytes_at, heap_map, IsMoved}
+use Rattle.rh_safety.proofs.SeenHeaps.{cut_is, used_is}
 use Rattle.rh_safety.proofs.HeapMaps as heaps
-use Rattle.rh_safety.proofs.Ends as post
 use Rattle.rh_laws.proofs.Accounts.{size_in}
 
 -- ---- bytes written into a block

@@ -1,13 +1,14 @@
 -- Each message that a poll handles keeps what agrees with what was offered.
-use Rattle.rh_laws.proofs.Common.{Active, Asked, Body, Desk, Flex, Handled, Has, Incoming, List, OnGrant, Outgoing, Parcel, Part, Sending, Slot, Taking, Task}
-use Rattle.rh_laws.proofs.Common.{Letter, None, Ok, Some, Transmit, appended, chosen, false, granted, granted-then, handled, in_id, inl, inr, length, next_ref, out_id, refl}
+use Rattle.rh_laws.proofs.Common.{Active, Asked, Body, Desk, Handled, Has, Incoming, List, OnGrant, Outgoing, Parcel, Part, Sending, Taking, Task}
+use Rattle.rh_laws.proofs.Common.{Letter, None, Ok, Some, appended, chosen, false, granted, granted-then, handled, in_id, inl, inr, length, next_ref, out_id}
+use Rattle.rh_laws.proofs.Common.{refl}
 use Rattle.rh_laws.proofs.Common.{send_letter, subst, taking_ended, with_id, with_sending, with_taking, ℕ, ◌+◌, ◌≡◌}
 use Rattle.rh_defs.proofs.Chains.{grant-holds}
 use Rattle.rh_defs.specs.declared.transfer.Incoming.TheVariants as incoming
 use Rattle.rh_defs.specs.declared.transfer.Outgoing.TheVariants as outgoing
 use Rattle.rh_defs.specs.Sender as sender
 use Rattle.rh_defs.specs.Receiver as receiver
-use Rattle.rh_safety.proofs.Acts.{Act, abandons, asks, claims, fails, finishes, gives_up, handled-acts, is_back, loads, loads_only, part_of, saves, sends}
+use Rattle.rh_safety.proofs.Acts.{Act, abandons, asks, claims, fails, finishes, gives_up, handled-acts, loads, loads_only, part_of, saves, sends}
 use Rattle.rh_safety.proofs.Acts.{skips, takes_full, takes_last, takes_some, transmit_of}
 use Rattle.rh_laws.specs.Addressed.{Addresses, From}
 use Rattle.rh_laws.proofs.Addresses.{Agrees, BodyAgrees, InAgrees, OutAgrees, ParcelAgrees, TaskAgrees, all-has, all-more, all-with, back-agrees, code-says}
@@ -80,7 +81,8 @@ module _ (a : Addresses) (t : Task) (own : TaskAgrees a t) (d : Desk) (g : Agree
   act-agrees (loads_only q file e o it w) is =
       in_ (record e { scrap = None }) (longer _ _ w.longer_is) q.id (incoming.Failed q.id q.anchor (length file.bytes)) (q.sender, of-asking q it.has)
   act-agrees (loads q file e sent it w l) is =
-      in_ sent (posted (record e { scrap = None }) (longer _ _ w.longer_is) _ tt l) q.id (incoming.Done q.id q.anchor (length file.bytes)) (q.sender, of-asking q it.has)
+      in_ sent (posted (record e { scrap = None }) (longer _ _ w.longer_is) _ tt l) q.id (incoming.Done q.id q.anchor (length file.bytes))
+      (q.sender, of-asking q it.has)
 
   -- a message that is the task's
   pub mine-agrees : IsMine (ParcelAgrees a) (back-agrees a) h m → Agrees a (handled d t m m.code).0

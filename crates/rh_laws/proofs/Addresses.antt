@@ -1,5 +1,6 @@
 -- What holds of a run: each record, each DataSave that is queued and each that was sent last agree with what was offered.
-use Rattle.rh_laws.proofs.Common.{◌≡◌, ℕ, ◌+◌, ◌≤◌, Bool, false, true, List, [], ◌∷◌, Option, Some, None, refl, sym, subst, inl, inr, arith, ◌==◌, nat_le, AllByRecursion}
+use Rattle.rh_laws.proofs.Common.{◌≡◌, ℕ, ◌+◌, ◌≤◌, Bool, false, true, List, [], ◌∷◌, Option, Some, None, refl, sym, subst, inl, inr, arith, ◌==◌, nat_le}
+use Rattle.rh_laws.proofs.Common.{AllByRecursion}
 use Rattle.rh_laws.proofs.Common.{eqb_tells, Body, EventCode, User, Recorded, Acknowledge, Letter, Outgoing, Incoming, Taking, Parcel, Post, as_returned}
 use Rattle.rh_laws.proofs.Common.{in_id, out_id, with_id, Slot, Desk, Task, edit_task, free_pages, send_letter, with_delivered, with_post, with_sending}
 use Rattle.rh_laws.proofs.Common.{with_slot, with_taking, with_task, taking_ended, OnGrant, chosen, granted, granted-with, all-mono, append-all, Has, at_place}

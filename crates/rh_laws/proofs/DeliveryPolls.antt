@@ -1,6 +1,6 @@
 -- Each message that a poll handles keeps what holds of transfers and of the files that were loaded.
 use Rattle.rh_laws.proofs.Common.{Acknowledge, Active, AllByRecursion, Asked, Body, Desk, EventCode, Handled, Has, Incoming, Letter, List, None, Ok, OnGrant}
-use Rattle.rh_laws.proofs.Common.{Option, Outgoing, Parcel, Part, Recorded, Sending, Some, Taking, Task, User, [], and_left, and_right, ap, appended, arith}
+use Rattle.rh_laws.proofs.Common.{Outgoing, Parcel, Part, Recorded, Some, Taking, Task, User, [], and_left, and_right, ap, appended, arith}
 use Rattle.rh_laws.proofs.Common.{as_returned, chosen, eqb_tells, false, granted, granted-then, handled, in_id, inl, inr, is_equal, length, load_ack_letter}
 use Rattle.rh_laws.proofs.Common.{nat_eq, next_ref, out_id, refl, same_value, send_letter, subst, sym, taking_ended, true, with_id, with_sending}
 use Rattle.rh_laws.proofs.Common.{with_taking, with_task, ℕ, ◌+◌, ◌<◌, ◌∙◌, ◌∷◌, ◌≡◌}

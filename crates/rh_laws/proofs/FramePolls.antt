@@ -1,21 +1,18 @@
 -- A poll leaves other tasks as they were, but for the first bytes of one buffer.
-use Rattle.rh_laws.proofs.Common.{◌≡◌, ◌≢◌, ℕ, Bool, true, false, List, [], length, take, drop, Option, Some, None, refl, sym, ap, ◌∙◌, subst, ◌⊎◌, inl}
-use Rattle.rh_laws.proofs.Common.{inr, arith, ◌-◌, ◌==◌, min, Ok, option_map, eqb_tells, Refusal, NoTask, Command, Body, EventCode, User, Recorded}
-use Rattle.rh_laws.proofs.Common.{and_left, and_right, Acknowledge, Sending, Taking, Incoming, Outgoing, Part, found_or, Split, bytes_of, Flex, heap_block_at, slot_block}
-use Rattle.rh_laws.proofs.Common.{buffer_at, with_heap_bytes, written_in, Parcel, post_poll, open_of, Desk, Task, named, next_ref, send_letter, task_at}
-use Rattle.rh_laws.proofs.Common.{with_delivered, with_sending, with_task, Handled, ignored, perform_send, send_with, transmit, answers_none, came}
-use Rattle.rh_laws.proofs.Common.{handled, Answer, event, poll, poll_taken, step, Active, Has, buffers_of, task_of, view, contains_of, either, first_is}
-use Rattle.rh_laws.proofs.Common.{is_equal, open_is, Good, found_name, ok_is, Fits, is_found, the_task, field_is, live_of}
+use Rattle.rh_laws.proofs.Common.{◌≡◌, ◌≢◌, ℕ, Bool, false, List, [], length, take, drop, Option, Some, None, refl, sym, ap, ◌∙◌, subst, ◌⊎◌, inl}
+use Rattle.rh_laws.proofs.Common.{inr, arith, ◌-◌, ◌==◌, min, Ok, option_map, eqb_tells, Refusal, Command}
+use Rattle.rh_laws.proofs.Common.{and_left, and_right, Sending, Taking, Incoming, Part, Split, bytes_of, Flex, heap_block_at}
+use Rattle.rh_laws.proofs.Common.{buffer_at, with_heap_bytes, written_in, Parcel, post_poll, Desk, Task, named, next_ref, task_at}
+use Rattle.rh_laws.proofs.Common.{with_delivered, with_sending, with_task, Handled}
+use Rattle.rh_laws.proofs.Common.{handled, Answer, event, poll, poll_taken, step, Active, buffers_of, task_of, view, contains_of, first_is}
+use Rattle.rh_laws.proofs.Common.{is_equal, Good, found_name, Fits, the_task, field_is, live_of}
 use Rattle.rh_defs.specs.declared.command.Command.TheVariants as command
 use Rattle.rh_defs.specs.declared.message.Body.TheVariants as body
 use Rattle.rh_defs.specs.declared.reply.Outcome.TheVariants as outcome
 use Rattle.rh_defs.specs.declared.transfer.Incoming.TheVariants as incoming
 use Rattle.rh_defs.specs.declared.transfer.Outgoing.TheVariants as outgoing
-use Rattle.rh_defs.specs.Letters.{transmit_letter}
 use Rattle.rh_defs.specs.Sender as sender
-use Rattle.rh_defs.proofs.Chains.{grant-holds}
 use Rattle.rh_safety.proofs.Ends.{Letter}
-use Rattle.rh_safety.proofs.Sight as sight
 use Rattle.rh_safety.proofs.Invariant.{Offered}
 use Rattle.rh_safety.proofs.KeptActs.{reaches, waits}
 use Rattle.rh_safety.proofs.SeenActs.{fetch_in}
@@ -24,10 +21,9 @@ use Rattle.rh_safety.proofs.Acts.{ForOpen, Sends, handled-acts, not-back, part_o
 use Rattle.rh_safety.proofs.Basics.{not_true}
 use Rattle.rh_safety.proofs.OwnEdits.{OwnEdits, act-own}
 use Rattle.rh_safety.proofs.Polls.{Taken}
-use Rattle.rh_safety.proofs.SeenBlocks.{from_test, the_block}
+use Rattle.rh_safety.proofs.SeenBlocks.{the_block}
 use Rattle.rh_safety.proofs.SeenDocuments.{letter_of}
 use Rattle.rh_safety.proofs.SeenFrames.{bind, done, instead_of}
-use Rattle.rh_safety.proofs.SeenSends.{by_grant, with_step}
 use Rattle.rh_safety.proofs.SeenTaking.{poll_taken_is}
 use Rattle.rh_safety.proofs.SeenWrites.{buffer_found}
 use Rattle.rh_safety.specs.TaskRecords.{HoldsOne}

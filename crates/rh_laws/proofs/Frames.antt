@@ -1,8 +1,8 @@
 -- Edits of one task leave the others, and so does each command that isn't of them and no poll.
 use Rattle.rh_laws.proofs.Common.{◌≡◌, ◌≢◌, ℕ, true, false, not, List, [], ◌∷◌, ◌++◌, Option, Some, None, refl, ap, ◌∙◌, inl, inr, arith, nat_eq, ◌==◌}
-use Rattle.rh_laws.proofs.Common.{if◌then◌else◌, filter, find, Ok, option_map, eqb_tells, Command, Manner, Letter, Taking, Outgoing, Incoming, Slot, Desk}
+use Rattle.rh_laws.proofs.Common.{if◌then◌else◌, filter, find, Ok, option_map, eqb_tells, Command, Manner, Letter, Outgoing, Incoming, Slot, Desk}
 use Rattle.rh_laws.proofs.Common.{Task, edit_task, has_name, named, send_letter, task_at, with_delivered, with_sending, with_slot, with_taking, with_task}
-use Rattle.rh_laws.proofs.Common.{Answer, start_task, kill, make, taking_ended, save, repeat, poll, cancel_in, cancel_out, change, step, OnGrant, granted}
+use Rattle.rh_laws.proofs.Common.{Answer, start_task, kill, make, save, repeat, poll, cancel_in, cancel_out, change, step, OnGrant, granted}
 use Rattle.rh_laws.proofs.Common.{granted-past, granted-then, granted-with, or_else-keeps, none_some, found_name, task_of, Changed, IsOnMemory, granted-on}
 use Rattle.rh_laws.proofs.Common.{in_areas, in_made, in_module, in_nothing, in_slot}
 use Rattle.rh_defs.specs.declared.command.Command.TheVariants as command
@@ -81,10 +81,6 @@ module _ (h k : ℕ) (ne : h ≢ k) where
 
   pub ins-leave : (edit : List Incoming → List Incoming) (d : Desk) → Leaves k d (with_taking h edit d)
   ins-leave edit d = task-leaves (λ (t : Task). record t { taking = edit t.taking }) (λ y. refl) d
-
-  pub ended-leaves : (f : Taking) (edit : List Incoming → List Incoming) (d : Desk) → Leaves k d (taking_ended h f edit d)
-  unfolding taking_ended
-  ended-leaves f edit d = both-leave (task-leaves _ (λ y. refl) d) (ins-leave edit _)
 
 pub letter-leaves : (k : ℕ) (l : Letter) (d : Desk) → l.from ≢ k → OnGrant (Leaves k d) (send_letter l d)
 unfolding send_letter with_task

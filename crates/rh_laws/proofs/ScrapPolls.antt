@@ -1,34 +1,21 @@
 -- A poll of a task by its name, where the post has one message at most: what is seen of the desk then.
-use Rattle.rh_laws.proofs.Common.{◌≡◌, ℕ, Bool, true, false, List, [], ◌∷◌, Option, Some, None, refl, sym, ap, ◌∙◌, subst, length, if◌then◌else◌, find}
-use Rattle.rh_laws.proofs.Common.{option_map, ◌==◌, eq-eqb, EventCode, User, Recorded, Acknowledge, Sending, Taking, Asked, SendAction, TakeAction}
-use Rattle.rh_laws.proofs.Common.{is_name, IsDesk, Parcel, action_of, Post, active_of, asking_of, open_of, post_poll, Desk, Task, Scrap, has_name}
-use Rattle.rh_laws.proofs.Common.{with_delivered, Handled, ignored, perform_send, perform_take, answers_none, Answer, event, poll_taken, step}
-use Rattle.rh_laws.proofs.Common.{step-keeps, view, seen_parcel, task_of, Message, none_some, put_same, field_is, found_task, live_of, fits}
-use Rattle.rh_defs.specs.declared.command.Command.TheVariants as command
-use Rattle.rh_defs.specs.declared.message.Action.{Action}
+use Rattle.rh_laws.proofs.Common.{◌≡◌, ℕ, true, false, List, Option, Some, None, refl, sym, ap, ◌∙◌, length}
+use Rattle.rh_laws.proofs.Common.{option_map, ◌==◌, EventCode, User, Recorded, Acknowledge, Sending, Taking, Asked}
+use Rattle.rh_laws.proofs.Common.{active_of, asking_of, open_of, Desk, Scrap}
+use Rattle.rh_laws.proofs.Common.{answers_none, Answer}
+use Rattle.rh_laws.proofs.Common.{view, seen_parcel, Message, none_some, field_is}
 use Rattle.rh_defs.specs.declared.message.Action.TheVariants as action
 use Rattle.rh_defs.specs.declared.transfer.Outgoing.TheVariants as outgoing
 use Rattle.rh_defs.specs.declared.transfer.Incoming.TheVariants as incoming
-use Rattle.rh_defs.specs.declared.transfer_action.Ending.TheVariants as ending
-use Rattle.rh_defs.specs.declared.transfer_action.SendAction.TheVariants as send_action
-use Rattle.rh_defs.specs.declared.transfer_action.TakeAction.TheVariants as take_action
-use Rattle.rh_defs.specs.Post.{post_is_live}
 use Rattle.rh_defs.specs.Sender as sender
 use Rattle.rh_defs.specs.Receiver as receiver
-use Rattle.rh_defs.specs.Desk.{kept_scrap}
 use Rattle.rh_defs.specs.Transfer as transfer
-use Rattle.rh_safety.specs.Alternation.{is_refusal, is_refused_poll}
+use Rattle.rh_safety.specs.Alternation.{is_refused_poll}
 use Rattle.rh_safety.proofs.View.{seen_scrap}
-use Rattle.rh_safety.proofs.Ends.{Letter, first_for}
+use Rattle.rh_safety.proofs.Ends.{Letter}
 use Rattle.rh_safety.proofs.Sight as sight
-use Rattle.rh_safety.proofs.Invariant.{rests}
-use Rattle.rh_safety.proofs.Turns.{first_one}
-use Rattle.rh_safety.proofs.SeenKeys.{handle_named, SameKeys}
-use Rattle.rh_safety.proofs.SeenTaking.{IsTaken, lost_queue, picked_by, poll_taken_is}
-use Rattle.rh_safety.proofs.SeenFiles.{seen_live}
 use Rattle.rh_laws.proofs.ScrapViews.{asked_goes, back_acts, done_goes, filed_goes, ignored_goes, told_goes}
-use Rattle.rh_safety.proofs.Alternations.{IsNamed, found_of, poll_in_range, poll_step, taken_keys}
-use Rattle.rh_safety.proofs.PollTurns.{Turn, came_acts, lost_twice, takes, turn_is}
+use Rattle.rh_safety.proofs.PollTurns.{Turn, came_acts, takes}
 
 -- ---- what each message leaves to see
 

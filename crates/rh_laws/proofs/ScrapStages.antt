@@ -72,10 +72,6 @@ false_left false b e = refl
 
 -- ---- the post
 
--- nobody holds a message
-abbrev pub nobody : ℕ → Option Message
-nobody h = None
-
 -- a send of a task that holds nothing
 still_none : (held : ℕ → Option Message) (h n : ℕ) → ((k : ℕ) → held k ≡ None) → (k : ℕ) →
     put held h (still_held (held h) n) k ≡ None

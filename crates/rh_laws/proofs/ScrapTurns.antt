@@ -1,16 +1,15 @@
 -- A save of a task that answers no fetch, and eight polls in turn, on the desk itself.
-use Rattle.rh_laws.proofs.Common.{◌≡◌, ◌≢◌, ℕ, ◌+◌, ◌<◌, Bool, true, false, not, List, [], ◌∷◌, ◌++◌, length, Option, Some, None, refl, sym, ap, ◌∙◌, subst}
-use Rattle.rh_laws.proofs.Common.{inl, inr, arith, nat_le, if◌then◌else◌, map, nat_eq, option_map, eqb_tells, Command, User, Recorded, Acknowledge, is_name}
-use Rattle.rh_laws.proofs.Common.{IsDesk, in_range, answers_none, Desk, Task, has_name, task_at, Answer, step, step-keeps, view, seen_parcel, blocks_of}
-use Rattle.rh_laws.proofs.Common.{task_of, Message, Taking, Has, Active, is_open, contains_of, either, and_left, put_same, put_other, Good, field_is}
+use Rattle.rh_laws.proofs.Common.{◌≡◌, ◌≢◌, ℕ, ◌+◌, ◌<◌, Bool, true, false, List, [], ◌∷◌, ◌++◌, length, Option, Some, None, refl, sym, ap, ◌∙◌, subst}
+use Rattle.rh_laws.proofs.Common.{inl, inr, arith, map, nat_eq, option_map, eqb_tells, Command, User, Recorded, Acknowledge, is_name}
+use Rattle.rh_laws.proofs.Common.{IsDesk, in_range, answers_none, Desk, Task, has_name, Answer, step, step-keeps, view, seen_parcel, blocks_of}
+use Rattle.rh_laws.proofs.Common.{task_of, Message, Taking, Has, Active, is_open, put_same, put_other, Good, field_is}
 use Rattle.rh_laws.proofs.Common.{found_task, live_of, Fits, fits}
 use Rattle.rh_defs.specs.declared.command.Command.TheVariants as command
 use Rattle.rh_defs.specs.declared.reply.Reply.TheVariants as reply
-use Rattle.rh_safety.specs.Alternation.{all_granted, is_refused_poll, SenderDone, ReceiverDone}
-use Rattle.rh_safety.proofs.View.{of}
-use Rattle.rh_safety.proofs.Ends.{Out, Open, Out_done, In, Fetching, Draining, Asking, In_done, put, first_for, without_first, drop_first, is_going}
+use Rattle.rh_safety.specs.Alternation.{all_granted, SenderDone, ReceiverDone}
+use Rattle.rh_safety.proofs.Ends.{Out, Open, Out_done, In, Fetching, Draining, Asking, In_done, put, first_for, without_first, is_going}
 use Rattle.rh_safety.proofs.Sight as sight
-use Rattle.rh_safety.proofs.Basics.{not_true, put_all, drop_old, Has-right}
+use Rattle.rh_safety.proofs.Basics.{put_all, Has-right}
 use Rattle.rh_safety.proofs.Invariant.{Offered}
 use Rattle.rh_safety.proofs.Arrivals.{Began}
 use Rattle.rh_safety.proofs.Turns.{Pair, outgoing_at, incoming_at, fetch_of, offer, let_go, pair_of, rest as stay, rest_old as stay_old, without_one}

@@ -1,6 +1,7 @@
 -- What the messages of a transfer by way of the scrap file make of what is seen of the desk, where nothing is refused.
-use Rattle.rh_laws.proofs.Common.{Acknowledge, Asked, Body, Bool, Desk, Handled, Incoming, List, Option, Parcel, Refusal, Scrap, Sending, Some, Taking, Task, [], action_of, active_of}
-use Rattle.rh_laws.proofs.Common.{and_left, answers_none, ap, asking_is, asking_of, eq-eqb, false, field_is, handled, inl, inr, is_equal, length, open_is, open_of}
+use Rattle.rh_laws.proofs.Common.{Acknowledge, Asked, Body, Bool, Desk, Handled, Incoming, List, Parcel, Refusal, Scrap, Sending, Some, Taking, Task, []}
+use Rattle.rh_laws.proofs.Common.{action_of, active_of}
+use Rattle.rh_laws.proofs.Common.{answers_none, ap, asking_is, asking_of, eq-eqb, false, field_is, handled, inl, inr, length, open_is, open_of}
 use Rattle.rh_laws.proofs.Common.{refl, same_value, subst, sym, task_of, true, view, ℕ, ◌&&◌, ◌==◌, ◌∙◌, ◌≡◌}
 use Rattle.rh_defs.specs.declared.message.Action.TheVariants as action
 use Rattle.rh_defs.specs.declared.message.Body.TheVariants as body

@@ -1,6 +1,6 @@
 -- Deeds on one record, which is written anew or comes to its end; and which records a message can be for.
-use Rattle.rh_laws.proofs.Common.{Active, Asked, Bool, Has, List, None, Option, Sending, Some, Taking, [], active_of, ap, asking_of, either, false, find}
-use Rattle.rh_laws.proofs.Common.{if◌then◌else◌, in_id, inl, inr, none_some, out_id, refl, subst, sym, true, ℕ, ◌&&◌, ◌==◌, ◌∙◌, ◌∷◌, ◌≡◌, ◌⊎◌}
+use Rattle.rh_laws.proofs.Common.{Asked, Bool, Has, List, None, Option, Sending, Some, Taking, ap, false}
+use Rattle.rh_laws.proofs.Common.{if◌then◌else◌, in_id, inl, inr, none_some, out_id, refl, subst, sym, true, ℕ, ◌&&◌, ◌==◌, ◌∙◌, ◌≡◌, ◌⊎◌}
 use Rattle.rh_defs.specs.declared.message.Action.TheVariants as action
 use Rattle.rh_safety.proofs.Ends.{Asking, Draining, Fetching, In, In_done, In_failed, Kind, Letter, Message, Open, Out, Out_done, Out_failed, put, with_id}
 use Rattle.rh_safety.proofs.Invariant.{Unread}

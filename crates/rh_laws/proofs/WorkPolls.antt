@@ -1,6 +1,6 @@
 -- Each message that a poll handles leaves less to do than before it was taken.
-use Rattle.rh_laws.proofs.Common.{Acknowledge, Ascend, Body, Bool, Desk, EventCode, Flex, Handled, Has, Incoming, List, NoBlock, None, Offers, Ok, OnGrant}
-use Rattle.rh_laws.proofs.Common.{Option, Outcome, Outgoing, Parcel, Part, Recorded, SaveFile, Scrap, Sending, Some, Split, Taking, Task, Transmit, User}
+use Rattle.rh_laws.proofs.Common.{Acknowledge, Ascend, Body, Bool, Desk, EventCode, Flex, Handled, Has, List, NoBlock, None, Offers, Ok, OnGrant}
+use Rattle.rh_laws.proofs.Common.{Option, Outcome, Outgoing, Parcel, Part, Recorded, SaveFile, Scrap, Sending, Some, Split, Task, Transmit, User}
 use Rattle.rh_laws.proofs.Common.{and_right, ap, appended, arith, block_of, buffer_at, drop, false, granted, granted-then, handled, if◌then◌else◌, inl, inr}
 use Rattle.rh_laws.proofs.Common.{is_found, leb_tells, length, nat_le, nat_lt, next_ref, out_id, refl, slot_block, subst, suc, sym, take, true, with_sending}
 use Rattle.rh_laws.proofs.Common.{written_in, ℕ, ◌*◌, ◌+◌, ◌-◌, ◌≡◌, ◌≤◌}
@@ -156,17 +156,20 @@ module _ (o : Offers) (t : Task) (own : Owns o t) (w n : ℕ) (held : Option Par
         let here = slots-here o r.handle (λ s. written_in buffer bytes (buffer_at buffer n s) s) sent all.1 in
         let some = elim (leb_tells 1 n) as (λ _. 1 ≤ n) [
           | inl y ↦ y.1
-          | inr y ↦ absurd (let z : nat_le 1 n ≡ true = and_right _ (nat_le 1 n) (and_right _ (sender.would_answer m.message.from m.message.your_ref n x) it.passes) in
+          | inr y ↦ absurd (let z : nat_le 1 n ≡ true = and_right _ (nat_le 1 n)
+              (and_right _ (sender.would_answer m.message.from m.message.your_ref n x) it.passes) in
               let v = y.0 in cc)
         ] in
-        let y = outs-here o (sender.sent a part (next_ref d)) 2 0 (sent-outs a it.has (next_ref d) source.here.bytes some (source-is x it.has source w.source_is))
+        let y = outs-here o (sender.sent a part (next_ref d)) 2 0
+        (sent-outs a it.has (next_ref d) source.here.bytes some (source-is x it.has source w.source_is))
         _ here in
         let work = y.0 in
         let next = y.1 in
         record { work = omega (arith, work); next = omega (arith, next); names = y.2 }
     act-falls (saves x source sent it there none l) lets bare room =
         let all = grant-holds (letter-here o _ refl lets _ (filed d d.scrap _ is)) l in
-        let z = outs-here o (sender.saved (save_of d t m x) (next_ref d)) 0 0 (saved-outs (save_of d t m x) it.has (next_ref d)) _ (filed sent _ sent.areas all.1) in
+        let z = outs-here o (sender.saved (save_of d t m x) (next_ref d)) 0 0 (saved-outs (save_of d t m x) it.has (next_ref d)) _
+        (filed sent _ sent.areas all.1) in
         let work = z.0 in
         let next = z.1 in
         record { work = omega (arith, work); next = omega (arith, next); names = z.2 }
