@@ -8,6 +8,7 @@ ghost use Rattle.rh_defs.specs.Line.{line_means, words_of};
 ghost use Rattle.rh_defs.specs.Order.{IsReordered};
 ghost use Rattle.rh_defs.specs.Range.{in_range};
 ghost use Rattle.rh_defs.specs.Commands.{step};
+ghost use Rattle.rh_defs.specs.declared.sizes.TheConstants.{MAX_PAGES};
 ghost use Rattle.rh_drawn.specs.DrawnReplies.{Excerpts};
 ghost use Rattle.rh_feed.specs.Lines.{kept};
 ghost use Rattle.rh_map.specs.Replies.{front_of};
@@ -83,10 +84,7 @@ impl<D: Drawn> Painter<D> {
         ensures rest { self.new ≡ record self.old { pages = self.new.pages } }
     {
         self.drawn.page_list(&mut self.pages);
-        let mut room = [0; HEAD_ROOM];
-        let mut pen = WriterPen::new(writer, &mut room);
-        print_head(name, self.pages.len() as u32, &mut pen);
-        pen.finish()
+        write_head(name, self.pages.len() as u32, writer)
     }
 
     /// Shows a line that asks for nothing, and notes whether it marks the next command.
@@ -367,4 +365,15 @@ impl<D: Drawn> LineTaker for Painter<D> {
     fn take_rest<P: Pen>(&mut self, rest: &[u8], pen: &mut P) {
         self.paint_rest(rest, pen);
     }
+}
+
+/// Writes the beginning of a sheet over so many pages, with the name of its script.
+fn write_head<W: Sink>(name: &[u8], pages: u32, writer: &mut W) -> Result<(), WriteFailed>
+    requires { pages ≤ MAX_PAGES }
+    ensures { Puts (W.output writer.old) (W.output writer.new) result (sheet_head name.now pages) }
+{
+    let mut room = [0; HEAD_ROOM];
+    let mut pen = WriterPen::new(writer, &mut room);
+    print_head(name, pages, &mut pen);
+    pen.finish()
 }
