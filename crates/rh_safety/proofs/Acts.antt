@@ -1,27 +1,26 @@
 -- What a task does with a message that a poll hands it, told once: the record that the message is for, the letter that goes out,
 -- and the desk after it.
-use Rattle.rh_safety.proofs.Common.{Acknowledge, Active, AnchorInUse, Append, Asked, Bool, Body, Claim, Desk, Err, EventCode, Fetch, FoundActive, Granted, Handled, Has, OnGrant}
-use Rattle.rh_safety.proofs.Common.{Incoming, LoadFile, NoTask, None, Ok, Option, Outcome, Part, Recorded, Refusal, SaveFile, Scrap, SendAction, Sending, Split, Flex}
+use Rattle.rh_safety.proofs.Common.{Acknowledge, Active, AnchorInUse, Append, Asked, Bool, Body, Claim, Desk, Err, EventCode, FoundActive, Granted, Handled}
+use Rattle.rh_safety.proofs.Common.{Has, OnGrant}
+use Rattle.rh_safety.proofs.Common.{Incoming, LoadFile, NoTask, None, Ok, Option, Outcome, Part, Recorded, Refusal, SaveFile, Scrap, Sending, Split, Flex}
 use Rattle.rh_safety.proofs.Common.{Some, TakeAction, Taking, Task, Transmit, User, accept, ack_back, active_is, and_right, answers_none, append, appended}
 use Rattle.rh_safety.proofs.Common.{ask, asking_is, buffer_at, came, came_back, drains, drop, either, fail_sending, false, fetch_letter, fetch_more, fetches}
-use Rattle.rh_safety.proofs.Common.{free_anchor, free_pages, granted, granted-past, granted-then, handled, heap_block_at, if◌then◌else◌, ignored, inl, inr}
-use Rattle.rh_safety.proofs.Common.{is_deaf, is_equal, is_found, is_full, is_going, is_some, length, load_file, load_letter, loaded, next_ref, none_some, not, open_is}
+use Rattle.rh_safety.proofs.Common.{free_anchor, free_pages, granted, granted-past, granted-then, handled, heap_block_at, ignored, inl, inr}
+use Rattle.rh_safety.proofs.Common.{is_deaf, is_equal, is_found, is_full, is_going, is_some, length, load_file, load_letter, loaded, next_ref, not, open_is}
 use Rattle.rh_safety.proofs.Common.{open_of, option_map, or_else-keeps, perform_send, perform_take, refl, save_scrap, scrap_shortage, send_letter, send_with}
-use Rattle.rh_safety.proofs.Common.{slot_alloc, slot_block, slot_claim, sym, take, take_with, taking_ended, task_at, took, transmit, transmit_letter, true, wider}
-use Rattle.rh_safety.proofs.Common.{with_sending, with_slot, with_taking, with_task, ℕ, ◌&&◌, ◌+◌, ◌==◌, ◌^◌, ◌≡◌, ap, subst, ◌∙◌, nat_le, nat_lt, flex_address, Parcel}
+use Rattle.rh_safety.proofs.Common.{slot_alloc, slot_block, slot_claim, sym, take, take_with, taking_ended, task_at, took, transmit, transmit_letter, true}
+use Rattle.rh_safety.proofs.Common.{wider}
+use Rattle.rh_safety.proofs.Common.{with_sending, with_slot, with_taking, with_task, ℕ, ◌&&◌, ◌+◌, ◌==◌, ◌^◌, ◌≡◌, ap, subst, ◌∙◌, nat_le, nat_lt, Parcel}
 use Rattle.rh_defs.specs.declared.message.Body.TheVariants as body
 use Rattle.rh_defs.specs.declared.message.FileData.{FileData}
 use Rattle.rh_defs.specs.declared.reply.Outcome.TheVariants as outcome
 use Rattle.rh_defs.specs.declared.transfer.Incoming.TheVariants as incoming
 use Rattle.rh_defs.specs.declared.transfer.Outgoing.TheVariants as outgoing
 use Rattle.rh_defs.specs.declared.transfer_action.Next.{Next}
-use Rattle.rh_defs.specs.declared.transfer_action.Next.TheVariants as next
 use Rattle.rh_defs.specs.declared.transfer_action.SendAction.TheVariants as send_action
-use Rattle.rh_defs.specs.declared.transfer_action.TakeAction.TheVariants as take_action
 use Rattle.rh_defs.proofs.Chains.{granted-both}
-use Rattle.rh_defs.specs.IncomingEvents.{end_failed, told}
+use Rattle.rh_defs.specs.IncomingEvents.{end_failed}
 use Rattle.rh_defs.specs.Letters.{ack_letter, load_ack_letter}
-use Rattle.rh_defs.specs.OutgoingEvents.{is_out_of_reach}
 use Rattle.rh_defs.specs.Places.{first_bytes, written_in}
 use Rattle.rh_defs.specs.Records.{active_of, asking_of}
 use Rattle.rh_defs.specs.Sender as sender
@@ -172,10 +171,12 @@ module _ (d : Desk) (t : Task) (m : Parcel) where
   pub data Act : Bool → Body → Handled → Type 0 where
     skips : {back : Bool} {b : Body} → ForNone back b → Act back b (ignored d)
     -- an open record fails, sends bytes, saves a file, and ends
-    fails : {back : Bool} {b : Body} (x : Sending) (o : Outcome) → ForOpen back b x → Refuses back o → Act back b (with_sending h (sender.sending_failed x) d, o)
+    fails : {back : Bool} {b : Body} (x : Sending) (o : Outcome) → ForOpen back b x → Refuses back o → Act back b
+        (with_sending h (sender.sending_failed x) d, o)
     sends : {buffer n : ℕ} (x : Sending) (source : Split Flex) (r : Task) (sent : Desk) → ForOpen false (body.RamFetch buffer n) x →
         Sends buffer n x source r sent → Act false (body.RamFetch buffer n) (
-          with_sending h (sender.sent (transmit_of buffer n x) (part_of buffer n x source) (next_ref d)) (poured buffer n (part_of buffer n x source) source r sent),
+          with_sending h (sender.sent (transmit_of buffer n x) (part_of buffer n x source) (next_ref d))
+              (poured buffer n (part_of buffer n x source) source r sent),
           outcome.Sent (part_of buffer n x source).n (next_ref d),
         )
     saves : {file : FileData} (x : Sending) (source : Split Flex) (sent : Desk) → ForOpen false (body.DataSaveAck file) x →
@@ -211,9 +212,13 @@ module _ (d : Desk) (t : Task) (m : Parcel) where
         send_letter (ack_letter h f) d ≡ Ok sent →
         Act true (body.RamFetch buffer n) (taking_ended h f (receiver.asking f (next_ref d)) sent, outcome.Asked (next_ref d))
     -- one that waits for a file ends without it, with it, and with its sender told
-    abandons : {back : Bool} {b : Body} (q : Asked) (o : Outcome) → ForAsking back b q → Refuses back o → Act back b (with_taking h (receiver.abandoned q 0) d, o)
+    abandons : {back : Bool} {b : Body} (q : Asked) (o : Outcome) → ForAsking back b q → Refuses back o → Act back b
+        (with_taking h (receiver.abandoned q 0) d, o)
     loads_only : {file : FileData} (q : Asked) (scrap : Scrap) (longer : Desk) (r : Refusal) → ForAsking false (body.DataLoad file) q → Loads q scrap longer →
-        Act false (body.DataLoad file) (with_taking h (receiver.abandoned q (length scrap.bytes)) (record longer { scrap = None }), outcome.LoadedFailed (length scrap.bytes) r)
+        Act false (body.DataLoad file) (
+          with_taking h (receiver.abandoned q (length scrap.bytes)) (record longer { scrap = None }),
+          outcome.LoadedFailed (length scrap.bytes) r,
+        )
     loads : {file : FileData} (q : Asked) (scrap : Scrap) (longer sent : Desk) → ForAsking false (body.DataLoad file) q → Loads q scrap longer →
         send_letter (load_ack_letter h (load_of q) (length scrap.bytes)) (record longer { scrap = None }) ≡ Ok sent →
         Act false (body.DataLoad file) (with_taking h (receiver.taking_loaded q (length scrap.bytes)) sent, outcome.Loaded (length scrap.bytes))

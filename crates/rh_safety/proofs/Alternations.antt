@@ -1,5 +1,6 @@
 -- Two tasks polled in turn bring a transfer to its end, on the desk itself.
-use Rattle.rh_safety.proofs.Common.{first_for, ◌≡◌, ℕ, zero, suc, ◌+◌, ◌-◌, ◌*◌, ◌/◌, ◌<◌, ◌≤◌, Bool, true, false, not, List, [], ◌∷◌, length, Option, Some, None, refl}
+use Rattle.rh_safety.proofs.Common.{first_for, ◌≡◌, ℕ, zero, suc, ◌+◌, ◌-◌, ◌*◌, ◌/◌, ◌<◌, ◌≤◌, Bool, true, false, not, List, [], ◌∷◌, length, Option, Some}
+use Rattle.rh_safety.proofs.Common.{None, refl}
 use Rattle.rh_safety.proofs.Common.{sym, ap, ◌∙◌, subst, arith, ◌&&◌, ◌==◌, find, map, Ok, option_map, list_any, Command, Recorded, Incoming, is_name, IsDesk}
 use Rattle.rh_safety.proofs.Common.{in_range, Parcel, Seat, held_by, post_poll, ◌>>=◌, found_or, or_else, Desk, Task, has_name, task_at, named}
 use Rattle.rh_safety.proofs.Common.{with_delivered, Answer, poll, poll_taken, step, after, is_open, is_going, answers_none, EventCode, User, Acknowledge}

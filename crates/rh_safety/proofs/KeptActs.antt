@@ -1,22 +1,23 @@
 -- Each act on a message keeps the invariant.
-use Rattle.rh_safety.proofs.Common.{Active, Asked, Body, Bool, Desk, Edits, Good, Handled, Has, Incoming, Letter, List, None, Offers, Option, Outgoing}
-use Rattle.rh_safety.proofs.Common.{Parcel, Scrap, Sending, Some, Taking, Task, [], action_of, and_left, and_right, answers_none, ap, arith, either, false, field_is}
-use Rattle.rh_safety.proofs.Common.{inl, inr, ins_view, is_equal, leb_tells, length, live_of, nat_eq, nat_le, nat_lt, not, option_map, outs_view, refl}
-use Rattle.rh_safety.proofs.Common.{same_value, seen_good, seen_scrap, subst, suc, sym, task_of, true, view, ℕ, ◌&&◌, ◌+◌, ◌<◌, ◌∙◌, ◌≡◌, ◌≤◌}
-use Rattle.rh_defs.specs.declared.message.Action.TheVariants as action
+use Rattle.rh_safety.proofs.Common.{Active, Asked, Body, Bool, Desk, Edits, Good, Handled, Has, Incoming, Letter, List, Offers}
+use Rattle.rh_safety.proofs.Common.{Parcel, Scrap, Sending, Some, Taking, Task, [], and_left, and_right, answers_none, ap, arith, either, false, field_is}
+use Rattle.rh_safety.proofs.Common.{inl, inr, ins_view, is_equal, leb_tells, length, live_of, nat_eq, nat_lt, not, option_map, outs_view, refl}
+use Rattle.rh_safety.proofs.Common.{same_value, seen_good, seen_scrap, subst, suc, sym, task_of, true, view, ℕ, ◌+◌, ◌∙◌, ◌≡◌, ◌≤◌}
 use Rattle.rh_defs.specs.declared.message.Body.TheVariants as body
 use Rattle.rh_defs.specs.declared.transfer.Incoming.TheVariants as incoming
 use Rattle.rh_defs.specs.declared.transfer.Outgoing.TheVariants as outgoing
 use Rattle.rh_defs.specs.Receiver as receiver
 use Rattle.rh_defs.specs.Sender as sender
-use Rattle.rh_safety.proofs.Acts.{Act, ForActive, ForAsking, ForFetching, Loads, abandons, asks, claims, fails, finishes, gives_up, is_file, is_for_active, is_for_open, loads, loads_only}
+use Rattle.rh_safety.proofs.Acts.{Act, ForActive, ForAsking, ForFetching, Loads, abandons, asks, claims, fails, finishes, gives_up, is_file, is_for_open, loads}
+use Rattle.rh_safety.proofs.Acts.{loads_only}
 use Rattle.rh_safety.proofs.Acts.{part_of, saves, sends, skips, takes_full, takes_last, takes_some}
-use Rattle.rh_safety.proofs.Arrivals.{Matched, began_good, fetched_good, filed_good, finished_good, given_up_good, here_quiet, loaded_good, matched, read_quiet}
+use Rattle.rh_safety.proofs.Arrivals.{Matched, began_good, fetched_good, filed_good, finished_good, given_up_good, loaded_good, matched, read_quiet}
 use Rattle.rh_safety.proofs.Arrivals.{shut_good, stopped_good, told_good, unasked_good, untold_good}
 use Rattle.rh_safety.proofs.Basics.{not_true}
 use Rattle.rh_safety.proofs.Endings.{asked_good}
 use Rattle.rh_safety.proofs.Polls.{Called, Taken, Waiter, answered_good, called, failed_good, not_fetch_good, portion_ok, unanswered_good}
-use Rattle.rh_safety.proofs.SeenActs.{Reaches, asks_seen, buffer_size, claims_seen, ends_seen, fetch_in, loads_only_seen, loads_seen, recipient_lives, saves_seen}
+use Rattle.rh_safety.proofs.SeenActs.{Reaches, asks_seen, buffer_size, claims_seen, ends_seen, fetch_in, loads_only_seen, loads_seen, recipient_lives}
+use Rattle.rh_safety.proofs.SeenActs.{saves_seen}
 use Rattle.rh_safety.proofs.SeenActs.{sends_seen, source_seen, taken_desk, takes_full_seen, takes_last_seen}
 use Rattle.rh_safety.proofs.SeenDocuments.{ended_view, letter_of}
 use Rattle.rh_safety.proofs.Sends.{Quiet}
@@ -177,7 +178,8 @@ module _ (d : Desk) (t : Task) (m : Parcel) (is : task_of t.handle d.tasks ≡ S
         seen_good (ins_view d h (receiver.abandoned q 0) live) (unasked_good h q (in_has _ it.has) (plain (body.DataLoad file) refl (r.came refl)))
     act_good (abandons q y it why) r = absurd (let z : false ≡ true = it.passes in (cc))
     act_good (loads_only {file = file} q scrap longer why it w) r =
-        seen_good (loads_only_seen d t m is q scrap longer w) (untold_good h (letter_of m (body.DataLoad file)) q (plain (body.DataLoad file) refl (r.came refl))
+        seen_good (loads_only_seen d t m is q scrap longer w)
+        (untold_good h (letter_of m (body.DataLoad file)) q (plain (body.DataLoad file) refl (r.came refl))
         (r.came refl).read (in_has _ it.has) scrap.bytes (whole file q scrap longer it w (r.came refl)))
     act_good (loads {file = file} q scrap longer sent it w l) r =
         let from = is_equal _ _ (and_left (nat_eq m.message.from q.sender) _ (and_right (is_file m.message.my_ref d.scrap) _ it.passes)) in

@@ -1,8 +1,8 @@
 -- A poll keeps the invariant.
-use Rattle.rh_safety.proofs.Common.{◌≡◌, ℕ, ◌<◌, true, false, List, Option, Some, None, refl, sym, ap, ◌∙◌, subst, option_map, Body, EventCode, User}
-use Rattle.rh_safety.proofs.Common.{Recorded, Acknowledge, Parcel, action_of, Post, post_poll, Desk, Task, named, with_delivered, Handled, handled, ignored}
-use Rattle.rh_safety.proofs.Common.{answers_none, poll, poll_taken, step, view, seen_parcel, task_of, Offers, Edits, first_for, either, Good, LiveFile}
-use Rattle.rh_safety.proofs.Common.{field_is, live_of, Fits, HaveOwnSeats, bind, done, instead_of, the_task, Keeps, seen_good, Taking, Active}
+use Rattle.rh_safety.proofs.Common.{◌≡◌, ℕ, ◌<◌, List, Option, Some, None, refl, sym, ap, ◌∙◌, subst, option_map}
+use Rattle.rh_safety.proofs.Common.{Acknowledge, Parcel, Post, post_poll, Desk, Task, named, with_delivered, handled}
+use Rattle.rh_safety.proofs.Common.{poll, poll_taken, step, view, seen_parcel, task_of, Offers, Edits, first_for, Good, LiveFile}
+use Rattle.rh_safety.proofs.Common.{live_of, Fits, HaveOwnSeats, bind, done, instead_of, the_task, Keeps, seen_good, Taking, Active}
 use Rattle.rh_defs.specs.declared.command.Command.TheVariants as command
 use Rattle.rh_safety.proofs.Sight as sight
 use Rattle.rh_safety.proofs.Polls.{Taken, came_taken, back_ready, left_good, unpicked_live, lost_if_handle, returned_handle}

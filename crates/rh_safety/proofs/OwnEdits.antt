@@ -8,7 +8,7 @@ use Rattle.rh_defs.specs.declared.message.Body.TheVariants as body
 use Rattle.rh_defs.specs.declared.message.Letter.{Letter}
 use Rattle.rh_defs.specs.declared.reply.Outcome.TheVariants as outcome
 use Rattle.rh_defs.specs.Sender as sender
-use Rattle.rh_safety.proofs.Acts.{Act, ForOpen, Sends, abandons, asks, claims, fails, finishes, gives_up, handled-acts, is_back, loads, loads_only, part_of}
+use Rattle.rh_safety.proofs.Acts.{Act, ForOpen, Sends, abandons, asks, claims, fails, finishes, gives_up, handled-acts, loads, loads_only, part_of}
 use Rattle.rh_safety.proofs.Acts.{poured, saves, sends, skips, takes_full, takes_last, takes_some, transmit_of}
 
 -- a relation of two desks that holds of each edit of what is a task's own, and of one after another

@@ -1,13 +1,13 @@
 -- A poll that takes the one message of the post, and what is seen of the desk once it was dealt with.
 use Rattle.rh_safety.proofs.Common.{◌≡◌, ℕ, ◌≤◌, Bool, true, false, List, [], ◌∷◌, length, Option, Some, None, refl, sym, ap, ◌∙◌, subst, inl, inr, ◌+◌}
 use Rattle.rh_safety.proofs.Common.{if◌then◌else◌, nat_lt, option_map, Body, EventCode, User, Recorded, Acknowledge, Sending, Taking, Incoming, Parcel}
-use Rattle.rh_safety.proofs.Common.{Scrap, put_same, FoundActive, active_is, drains, fetches, inr, not, open_is, same_value, ◌&&◌, action_of, Post, Desk, Task, with_delivered, Handled, perform_send, perform_take, open_of, answers_none, Answer}
-use Rattle.rh_safety.proofs.Common.{poll_taken, view, seen_parcel, address_in, amount_in, task_of, Letter, Message, first_for, none_some, field_is}
+use Rattle.rh_safety.proofs.Common.{Scrap, put_same, FoundActive, active_is, drains, fetches, inr, not, open_is, same_value, ◌&&◌, action_of, Post, Desk, Task}
+use Rattle.rh_safety.proofs.Common.{with_delivered, Handled, open_of, answers_none, Answer}
+use Rattle.rh_safety.proofs.Common.{poll_taken, view, seen_parcel, task_of, Letter, Message, first_for, none_some, field_is}
 use Rattle.rh_defs.specs.declared.message.Action.TheVariants as action
 use Rattle.rh_defs.specs.declared.message.Body.TheVariants as body
 use Rattle.rh_defs.specs.declared.reply.Outcome.TheVariants as outcome
 use Rattle.rh_defs.specs.declared.transfer.Incoming.TheVariants as incoming
-use Rattle.rh_defs.specs.declared.transfer_action.SendAction.TheVariants as send_action
 use Rattle.rh_defs.specs.Records.{active_of}
 use Rattle.rh_defs.specs.Receiver as receiver
 use Rattle.rh_defs.specs.Transfer as transfer
@@ -153,7 +153,8 @@ module _ (d : Desk) (t : Task) (m : Parcel) (is : task_of t.handle d.tasks ≡ S
       by (skips none) ok =
           let z = open_is (sight.would_answer (fetch_in m buffer n)) t.sending x found in
           unlike (sym (none.open_ x z.0) ∙ rw file z.1)
-      by (fails y o it why) ok = absurd (let z : is_refusal action.RamFetch (outcome.Refused why.0) ≡ false = subst (λ o. is_refusal action.RamFetch o ≡ false) why.1 ok in (cc))
+      by (fails y o it why) ok = absurd (let z : is_refusal action.RamFetch (outcome.Refused why.0) ≡ false = subst
+          (λ o. is_refusal action.RamFetch o ≡ false) why.1 ok in (cc))
       by (gives_up f o it why) ok = unlike it.passes
       by (abandons q o it why) ok = unlike it.passes
       by (sends y s r sent it z) ok =
@@ -206,7 +207,8 @@ module _ (d : Desk) (t : Task) (m : Parcel) (is : task_of t.handle d.tasks ≡ S
       one : (f : Taking) → active_of test t.taking ≡ Some (incoming.Fetching f) → f ≡ r
       one f e = let z : incoming.Fetching f ≡ incoming.Fetching r = same_value (active_of test t.taking) e found in cc
 
-      by : {y : Handled} → Act d t m false (body.RamTransmit buffer n) y → is_refusal action.RamTransmit y.1 ≡ false → view y.0 ≡ taken_desk (view d) t.handle r l
+      by : {y : Handled} → Act d t m false (body.RamTransmit buffer n) y → is_refusal action.RamTransmit y.1 ≡ false → view y.0 ≡ taken_desk
+          (view d) t.handle r l
       by (skips none) ok = lacks (active_is test t.taking (incoming.Fetching r) found)
         where
           lacks : {A : Type 0} {w : Incoming} → FoundActive test t.taking w → A
@@ -227,7 +229,8 @@ module _ (d : Desk) (t : Task) (m : Parcel) (is : task_of t.handle d.tasks ≡ S
 
   save_goes : (b : Body) {y : Handled} → Act d t m false b y → action_of b ≡ action.DataSave → is_refusal (action_of b) y.1 ≡ false →
       Began (view d) t.handle (letter_of m b) (view y.0)
-  save_goes (body.DataSave file) (claims k c p sent few free claim alloc l) kind ok = claims_seen d t m is (body.DataSave file) k c p sent few free claim alloc l
+  save_goes (body.DataSave file) (claims k c p sent few free claim alloc l) kind ok = claims_seen d t m is
+      (body.DataSave file) k c p sent few free claim alloc l
   save_goes (body.DataSave file) (skips none) kind ok = absurd (let z : is_refusal action.DataSave outcome.Ignored ≡ false = ok in (cc))
   save_goes (body.DataSave file) (fails y o it why) kind ok = unlike it.passes
   save_goes (body.DataSave file) (abandons q o it why) kind ok = unlike it.passes

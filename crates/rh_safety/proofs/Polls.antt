@@ -3,10 +3,10 @@ use Rattle.rh_safety.proofs.Common.{nat_le, ◌≡◌, ◌≢◌, ℕ, suc, ◌+
 use Rattle.rh_safety.proofs.Common.{ap, ◌∙◌, subst, ◌⊎◌, inl, inr, arith, length-drop, if◌then◌else◌, nat_eq, nat_lt, leb_tells, eq-eqb, Code, Plain}
 use Rattle.rh_safety.proofs.Common.{Recorded, DataSave, DataLoad, RamFetch, RamTransmit, Letter, Message, Sending, Taking, Out, Open, Out_done, out_id, Has}
 use Rattle.rh_safety.proofs.Common.{Active, put, with_id, first_for, without_first, sent, would_answer, put_all, put_same, put_other, and_left, and_right}
-use Rattle.rh_safety.proofs.Common.{is_equal, length_take, Ascend, with_ascends, open_is, Offered, queued, Knows, Unread, Inv, PendingAt, Good, IsLive, waits}
+use Rattle.rh_safety.proofs.Common.{is_equal, length_take, Ascend, with_ascends, Offered, queued, Knows, Unread, Inv, PendingAt, Good, IsLive, waits}
 use Rattle.rh_safety.proofs.Common.{rests, LiveFile, known_by}
 use Rattle.std.proofs.lemmas.Bool.Decides.{nat_tests}
-use Rattle.rh_safety.proofs.Ends.{Returned, find_open}
+use Rattle.rh_safety.proofs.Ends.{Returned}
 use Rattle.rh_defs.specs.Sender as sender
 use Rattle.rh_safety.proofs.Sight.{Desk, returned, picked, failed, answer_of, lost_if}
 use Rattle.rh_safety.proofs.Basics.{first_has, without_has, front_written, length_written}

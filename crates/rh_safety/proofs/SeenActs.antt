@@ -5,8 +5,9 @@ use Rattle.rh_safety.proofs.Common.{buffer_at, buffer_view, buffers_of, bytes_of
 use Rattle.rh_safety.proofs.Common.{free_anchor, free_pages, heap_block_at, how_many, if◌then◌else◌, inl, inr, ins_view, is_equal, is_full, is_going, is_some}
 use Rattle.rh_safety.proofs.Common.{leb_tells, length, length-drop, length-replicate, length-take, live_of, load_letter, nat_eq, nat_lt, next_ref, none_some}
 use Rattle.rh_safety.proofs.Common.{option_map, outs_view, put, refl, scrap_shortage, seen_letter, seen_scrap, send_letter, slot_alloc, slot_at, slot_block}
-use Rattle.rh_safety.proofs.Common.{slot_claim, slot_is, subst, suc, sym, take, take_all, taking_ended, task_at, task_of, transmit_letter, true, view, weight}
-use Rattle.rh_safety.proofs.Common.{wider, with_sending, with_slot, with_taking, with_task, with_id, in_id, written, zero, zeros, ℕ, ◌++◌, ◌+◌, ◌<◌, ◌∙◌, ◌≡◌, ◌≤◌, Asked}
+use Rattle.rh_safety.proofs.Common.{slot_claim, slot_is, suc, sym, take, take_all, taking_ended, task_of, transmit_letter, true, view, weight}
+use Rattle.rh_safety.proofs.Common.{wider, with_sending, with_slot, with_taking, with_task, with_id, in_id, written, zero, zeros, ℕ, ◌++◌, ◌+◌, ◌<◌, ◌∙◌, ◌≡◌}
+use Rattle.rh_safety.proofs.Common.{◌≤◌, Asked}
 use Rattle.rh_defs.specs.declared.message.Body.TheVariants as body
 use Rattle.rh_defs.specs.Heap.{block_room}
 use Rattle.rh_defs.specs.Letters.{ack_letter, load_ack_letter}
@@ -14,7 +15,6 @@ use Rattle.rh_defs.specs.Places.{first_bytes, free_from, with_heap_bytes, writte
 use Rattle.rh_defs.specs.Receiver as receiver
 use Rattle.rh_defs.specs.Sender as sender
 use Rattle.rh_defs.specs.Slot.{anchor_count, is_used}
-use Rattle.rh_defs.specs.declared.transfer.Outgoing.TheVariants as outgoing
 use Rattle.rh_safety.proofs.Sight as sight
 use Rattle.rh_safety.proofs.Acts.{Loads, Sends, append_of, claim_of, load_of, longer_of, part_of, poured, save_of, transmit_of}
 use Rattle.rh_safety.proofs.Arrivals.{Began}
@@ -199,7 +199,8 @@ module _ (d : Desk) (t : Task) (m : Parcel) (is : task_of t.handle d.tasks ≡ S
       let v2 : view sent ≡ sight.sent (view d1) h (seen_letter letter d.post.next_ref) = sent_view d1 sent letter e live1 in
       let edit = receiver.taking_claimed (claim_of d t m) k c.1 (next_ref d) in
       let v3 : view (with_taking h edit sent) ≡ fetching k c.1 bytes t.buffer =
-      ins_view sent h edit (ap (λ (y : sight.Desk). y.live h) v2 ∙ live1) ∙ ap (λ (y : sight.Desk). record y { taking = put y.taking h (edit (y.taking h)) }) v2 ∙
+      ins_view sent h edit (ap (λ (y : sight.Desk). y.live h) v2 ∙ live1) ∙ ap
+      (λ (y : sight.Desk). record y { taking = put y.taking h (edit (y.taking h)) }) v2 ∙
       ap (λ (z : sight.Desk). let y = sight.sent z h (seen_letter letter d.post.next_ref) in record y { taking = put y.taking h (edit (y.taking h)) }) v1 in
       record {
         anchor = k;
@@ -260,17 +261,23 @@ module _ (d : Desk) (t : Task) (m : Parcel) (is : task_of t.handle d.tasks ≡ S
           let w = is_longer in
           let D : sight.Desk = sight.longer (view d) h f n in
           let letter : ℕ → _ = λ size. fetch_letter h (receiver.next_fetch f m.message.my_ref size) in
-          let v2 : view sent ≡ sight.sent (view longer) h (seen_letter (letter t.buffer) longer.post.next_ref) = sent_view longer sent (letter t.buffer) e w.live in
+          let v2 : view sent ≡ sight.sent (view longer) h (seen_letter (letter t.buffer) longer.post.next_ref) = sent_view longer sent
+          (letter t.buffer) e w.live in
           ins_after sent (receiver.fetched (append_of d t m n f) (next_ref longer)) v2 (ap (λ (y : sight.Desk). y.live h) v2 ∙ w.live)
           (ap (λ (z : sight.Desk). let y = sight.sent z h (seen_letter (letter t.buffer) longer.post.next_ref) in
           record y { taking = put y.taking h (receiver.fetched (append_of d t m n f) (next_ref longer) (y.taking h)) }) longer_seen ∙
-          ap (λ (k : ℕ). let y = sight.sent D h (seen_letter (letter t.buffer) k) in record y { taking = put y.taking h (receiver.fetched (append_of d t m n f) k (y.taking h)) })
+          ap (λ (k : ℕ). let y = sight.sent D h (seen_letter (letter t.buffer) k) in record y {
+            taking = put y.taking h
+                (receiver.fetched (append_of d t m n f) k (y.taking h));
+          })
           (ap (λ p. p.next_ref) w.post) ∙
           ap (λ (k : ℕ). let y = sight.sent D h (seen_letter (letter k) D.next_ref) in
           record y { taking = put y.taking h (receiver.fetched (append_of d t m n f) D.next_ref (y.taking h)) }) (sym buffer_size))
 
-      pub takes_full_seen : (sent : Desk) → nat_lt n t.buffer ≡ false → send_letter (fetch_letter h (receiver.next_fetch f m.message.my_ref t.buffer)) longer ≡ Ok sent →
-          view (with_taking h (receiver.fetched (append_of d t m n f) (next_ref longer)) sent) ≡ taken_desk (view d) h f (letter_of m (body.RamTransmit buffer n))
+      pub takes_full_seen : (sent : Desk) → nat_lt n t.buffer ≡ false → send_letter (fetch_letter h (receiver.next_fetch f m.message.my_ref t.buffer)) longer
+          ≡ Ok sent →
+          view (with_taking h (receiver.fetched (append_of d t m n f) (next_ref longer)) sent) ≡ taken_desk (view d) h f
+          (letter_of m (body.RamTransmit buffer n))
       takes_full_seen sent full e = fetched_seen sent e ∙ choose false full
 
   -- the sender is asked for a file
@@ -313,6 +320,12 @@ module _ (d : Desk) (t : Task) (m : Parcel) (is : task_of t.handle d.tasks ≡ S
         let edit = receiver.taking_loaded q n in
         let post = (longer_is d t q.anchor file.bytes longer is w.longer_is).post in
         ins_after sent edit v2 (ap (λ (y : sight.Desk). y.live h) v2 ∙ copied_live)
-        (ap (λ (z : sight.Desk). let y = sight.sent z h (seen_letter letter d1.post.next_ref) in record y { taking = put y.taking h (edit (y.taking h)) }) copied_seen ∙
+        (ap (λ (z : sight.Desk). let y = sight.sent z h (seen_letter letter d1.post.next_ref) in record y {
+          taking = put y.taking h
+              (edit (y.taking h));
+        }) copied_seen ∙
         ap (λ (k : ℕ). let y = sight.sent D h (seen_letter letter k) in record y { taking = put y.taking h (edit (y.taking h)) }) (ap (λ p. p.next_ref) post) ∙
-        ap (λ (k : ℕ). let y = sight.sent D h (seen_letter (record letter { to = k }) D.next_ref) in record y { taking = put y.taking h (edit (y.taking h)) }) from)
+        ap (λ (k : ℕ). let y = sight.sent D h (seen_letter (record letter { to = k }) D.next_ref) in record y {
+          taking = put y.taking h
+              (edit (y.taking h));
+        }) from)
