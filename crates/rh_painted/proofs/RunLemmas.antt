@@ -16,6 +16,7 @@ use Rattle.rh_lines.proofs.FlowLemmas.{takes_breaks}
 use Rattle.rh_session.specs.Outcome.{status_of}
 use Rattle.rh_session.specs.declared.status.Status.{Status}
 use Rattle.rh_sheet.specs.Sheet.{sheet_end, sheet_head}
+use Rattle.rh_painted.specs.Inner.Heads.{head_of}
 use Rattle.rh_painted.specs.Painted as run
 use Rattle.rh_painted.specs.Painted.{IsBegun, IsSheet, IsSheetFront, PaintedSoFar, PaintedUntil}
 use Rattle.rh_painted.specs.PaintedWalks.{IsFirstPainted, TookPaintedRest, walk_at, walk_from}
@@ -85,6 +86,18 @@ pub same-pool : {D : Type 0} (desk : D → Desk) {marked : Bool} {drawn : D} {s 
     → (desk s.drawn).pool ≡ d.pool
 same-pool desk d alike first = ap (λ z. (desk z).pool) first.drawn_is ∙ ap (λ (z : Desk). z.pool) alike.rest
 
+-- ---- the beginning of a sheet
+
+-- it is offered as a whole
+pub head-offered : (name : Text) (pages : ℕ) (old : List ℕ) {new : List ℕ} → new ≡ old ++ sheet_head name pages → new ≡ old ++ head_of name pages
+unfolding head_of
+head-offered name pages old e = e
+
+-- it was written over as many pages as there are
+pub head-put : {E : Type 0} {o p : Output} {n m : ℕ} (name : Text) → n ≡ m → (r : Result Unit E) → Puts o p r (head_of name n) → Puts o p r (sheet_head name m)
+unfolding head_of
+head-put {o = o} {p = p} name same r puts = subst (λ (k : ℕ). Puts o p r (sheet_head name k)) same puts
+
 -- ---- the whole script was read
 
 -- the sheet of all lines, and whether one was bad
@@ -115,9 +128,9 @@ module _ {D : Type 0} {desk : D → Desk} {marked : Bool} {d : Desk} {s : Painte
       }
 
   -- the sheet of some lines without its end
-  front-of : {t : Painter D} {text : Text} (lines : List Text) → TookAll (TookPaintedLine desk) s (map kept lines) t text
+  front-of : (t : Painter D) (text : Text) (lines : List Text) → TookAll (TookPaintedLine desk) s (map kept lines) t text
       → IsSheetFront marked name d (map read_line lines) (sheet_head name d.pool ++ text)
-  front-of lines took =
+  front-of t text lines took =
       let p = took-lines lines is took in
       record { stages = p.stages; lines = p.lines; shared = p.shared; is = ap (λ t. sheet_head name d.pool ++ t) p.text_is }
 
@@ -142,7 +155,7 @@ module _ {D : Type 0} {desk : D → Desk} {marked : Bool} {d : Desk} {s : Painte
       bytes = fed.bytes;
       read = fed.read;
       text = sheet_head name d.pool ++ fed.text;
-      sheet = front-of (ended fed.bytes) fed.taken;
+      sheet = front-of _ fed.text (ended fed.bytes) fed.taken;
       written = takes_more begun fed.written;
     }
 
@@ -163,7 +176,7 @@ module _ {D : Type 0} {desk : D → Desk} {marked : Bool} {d : Desk} {s : Painte
           map read_line w.front,
           map read_line w.behind,
           ap (map read_line) w.whole ∙ map-append read_line w.front w.behind,
-          front-of w.front w.taken,
+          front-of w.taker fed.text w.front w.taken,
         )
         go (inr (at_end, t, w)) = inr (at_end, (script-painted fed.bytes w).sheet)
 

@@ -3,6 +3,7 @@ pub mod BandNames
 pub mod BandTexts
 pub mod Charts
 pub mod Figures
+pub mod Heads
 pub mod Notes
 pub mod PaintedSteps
 pub mod WaySteps

@@ -16,6 +16,7 @@ ghost use Rattle.rh_figure.specs.Scene.{Before, Marks, is_still as is_still_of, 
 ghost use Rattle.rh_figure.specs.Share.{Share};
 ghost use Rattle.rh_lines.specs.Flow.{Puts};
 ghost use Rattle.rh_painted.specs.PaintedWalks.{IsFirstPainted, walk_in};
+ghost use Rattle.rh_painted.specs.Inner.Heads.{head_of};
 ghost use Rattle.rh_painted.specs.Inner.PaintedSteps.{DrewLine, DrewRest, LeftStep, TookStep, WroteStep, happened_at};
 ghost use Rattle.rh_session.specs.Outcome.{status_of};
 ghost use Rattle.rh_sheet.specs.Chart.{noted};
@@ -370,7 +371,7 @@ impl<D: Drawn> LineTaker for Painter<D> {
 /// Writes the beginning of a sheet over so many pages, with the name of its script.
 fn write_head<W: Sink>(name: &[u8], pages: u32, writer: &mut W) -> Result<(), WriteFailed>
     requires { pages ≤ MAX_PAGES }
-    ensures { Puts (W.output writer.old) (W.output writer.new) result (sheet_head name.now pages) }
+    ensures { Puts (W.output writer.old) (W.output writer.new) result (head_of name.now pages) }
 {
     let mut room = [0; HEAD_ROOM];
     let mut pen = WriterPen::new(writer, &mut room);
