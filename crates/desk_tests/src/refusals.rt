@@ -114,8 +114,8 @@ fn runs_and_checks_are_refused_memory_in_turn(rt: HostRuntime) -> Result<(), Fai
     fs::write(&rt, "short.desk", "task a 100\nload a 0 f\nshow a 0\n")?;
     fs::write(&rt, "short.bin", "hello")?;
     let shown = "ok 1\nok &9008\nok 5 68656c6c6f\n";
-    let lost = "rh_desk: file lost.bin\n";
-    let bad_word = "rh_desk: bad file word f=x\n";
+    let lost = "rh_desk: file lost.bin\n  no such file\n";
+    let bad_word = "rh_desk: bad file word f=x\n  its name is given twice\n";
     let trials = [
         Trial::new(&[], AREAS_OF_64, "", 0),
         Trial::new(&RUN_OF_8_PAGES, AREAS_OF_8, "", 0),

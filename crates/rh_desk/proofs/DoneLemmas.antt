@@ -21,7 +21,7 @@ use Rattle.rh_desk.specs.CommandLine.{program_words}
 use Rattle.rh_desk.specs.Done.{CheckOver, FileOver, IsWhole, MapOver, RequestEnds, RunEnds, RunOver, SheetOver, ShownOver, Streams, Untouched}
 use Rattle.rh_desk.specs.Done.{WordsEnd, line_as, status_as}
 use Rattle.rh_desk.specs.Ending.{ending_of}
-use Rattle.rh_desk.specs.FileWords.{AreGood, TellsBadFile, word_name}
+use Rattle.rh_desk.specs.FileWords.{AreGood, word_name}
 use Rattle.rh_desk.specs.Requests.{AsksFor}
 use Rattle.rh_desk.specs.declared.ending.Ending.{Ending}
 use Rattle.rh_desk.specs.declared.ending.Ending.TheVariants.{Clean, BadLines}
@@ -31,7 +31,8 @@ use Rattle.rh_desk.specs.declared.request.Shown.{Shown}
 use Rattle.rh_drawn.specs.Mapped.{Mapped, MappedSoFar, MappedUntil}
 use Rattle.rh_figure.specs.Map.{place}
 use Rattle.rh_painted.specs.Painted.{Painted, PaintedSoFar, PaintedUntil}
-use Rattle.rh_desk.specs.Telling.{Tells, run_fault_text}
+use Rattle.rh_desk.specs.Telling.{Tells, TellsBadFile, TellsFolder, run_fault_text}
+use Rattle.rh_lines.specs.Flow.{Output}
 
 cut : (n : ℕ) (known : Option (List ℕ)) (old new : List ℕ) → IfSome (option_map (take n) known) (λ xs. new ≡ old ++ xs)
     → IfSome known (λ had. new ≡ old ++ take n had)
@@ -165,18 +166,20 @@ pub script-over : {F : Type 0} (remaining : F → Option (List ℕ)) (shown : Sh
 script-over remaining shown pages script ws files s ending good named whole from_input from_file =
     inl (record { files = files; good = good; named = named ∙ names-of ws; whole = whole; from_input = from_input; from_file = from_file })
 
-abbrev noted : {F : Type 0} → (F → Option (List ℕ)) → F → Bool → ℕ → Input → Streams → Streams
-noted remaining inner failed reads rest s = record s { before = record { left = remaining inner; failed = failed; reads = reads }; after = rest }
+abbrev noted : {F : Type 0} → (F → Option (List ℕ)) → F → Bool → ℕ → Input → Output → Streams → Streams
+noted remaining inner failed reads rest told s =
+    record s { before = record { left = remaining inner; failed = failed; reads = reads }; after = rest; told = told }
 
 -- a file of which nothing is noted yet
 pub file-over : {F : Type 0} (remaining : F → Option (List ℕ)) (shown : Shown) (d : Desk) (path : List ℕ) (s : Streams) (ending : Ending) (file inner : F)
-    (failed : Bool) (reads : ℕ) (rest : Input)
-    → inner ≡ file → failed ≡ false → reads ≡ 0 → s.after ≡ s.before → ShownOver shown path d (noted remaining inner failed reads rest s) ending
+    (failed : Bool) (reads : ℕ) (rest : Input) (told : Output)
+    → inner ≡ file → failed ≡ false → reads ≡ 0 → s.after ≡ s.before → TellsFolder told s.told ending
+    → ShownOver shown path d (noted remaining inner failed reads rest told s) ending
     → FileOver remaining shown d path s ending
-file-over remaining shown d path s ending file inner failed reads rest of well none same over =
-    let counted = subst (λ n. ShownOver shown path d (noted remaining inner failed n rest s) ending) none over in
-    let flagged = subst (λ b. ShownOver shown path d (noted remaining inner b 0 rest s) ending) well counted in
-    inl (same, (file, rest, subst (λ f. ShownOver shown path d (noted remaining f false 0 rest s) ending) of flagged))
+file-over remaining shown d path s ending file inner failed reads rest told of well none same folder over =
+    let counted = subst (λ n. ShownOver shown path d (noted remaining inner failed n rest told s) ending) none over in
+    let flagged = subst (λ b. ShownOver shown path d (noted remaining inner b 0 rest told s) ending) well counted in
+    inl (same, (file, rest, told, subst (λ f. ShownOver shown path d (noted remaining f false 0 rest told s) ending) of flagged, folder))
 
 -- the words are `clap`'s, and ask for this
 pub words-ask : {F : Type 0} (remaining : F → Option (List ℕ)) (words : List (List ℕ)) (found : Option (Text × List Row)) (request : Request) (s : Streams)

@@ -12,9 +12,9 @@ use Rattle.std.specs.List.{AllPairs, Contains, list_any}
 use Rattle.std.specs.Result.{IfErr, IsErrAnd, is_err}
 use Rattle.std.specs.Str.{bytes_eq}
 use Rattle.rh_defs.specs.Files.{FileList, has_file}
-use Rattle.rh_desk.specs.FileWords.{AreGood, IsFirstBad, TellsBadFile, is_file_word, word_name, word_path}
+use Rattle.rh_desk.specs.FileWords.{AreGood, IsFirstBad, is_file_word, word_name, word_path}
 use Rattle.rh_desk.specs.Inner.WordOfFile.{file_word}
-use Rattle.rh_desk.specs.Telling.{Tells, lost_file_text, run_fault_text}
+use Rattle.rh_desk.specs.Telling.{Tells, TellsBadFile, TellsLoss, run_fault_text}
 use Rattle.rh_lines.specs.Flow.{Output}
 use Rattle.rh_session.specs.declared.status.RunFault.TheVariants.{NoMemory}
 use Rattle.rh_desk.specs.declared.ending.Ending.{Ending}
@@ -129,10 +129,10 @@ word-in ws i d inside =
 
 -- the file of a word can't be had, or memory was refused
 pub lost-file : (old new : Output) (ws : List (Bor (List ℕ))) (i : ℕ) (d : Bor (List ℕ)) (name path : List ℕ) (ending : Ending) → i < length ws
-    → Some (name, path) ≡ file_word (get_or ws i d).now → ending ≡ Fault → Tells old new (lost_file_text path) ⊎ Tells old new (run_fault_text NoMemory)
+    → Some (name, path) ≡ file_word (get_or ws i d).now → ending ≡ Fault → TellsLoss old new path ⊎ Tells old new (run_fault_text NoMemory)
     → TellsBadFile old new (texts ws) ending
 lost-file old new ws i d name path ending inside found fault (inl told) =
-    inr ((get_or ws i d).now, fault, word-in ws i d inside, subst (λ p. Tells old new (lost_file_text p)) (found-is (get_or ws i d).now name path found).2 told)
+    inr ((get_or ws i d).now, fault, word-in ws i d inside, subst (λ p. TellsLoss old new p) (found-is (get_or ws i d).now name path found).2 told)
 lost-file old new ws i d name path ending inside found fault (inr told) = inl (inl (fault, told))
 
 -- past the last word all are good

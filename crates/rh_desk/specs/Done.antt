@@ -21,10 +21,11 @@ use Rattle.rh_session.specs.declared.status.RunFault.TheVariants.{NoMemory, Read
 use Rattle.rh_session.specs.declared.status.Status.{Status}
 use Rattle.rh_session.specs.declared.status.Status.TheVariants as status
 use Rattle.rh_desk.specs.CommandLine.{program_words}
-use Rattle.rh_desk.specs.FileWords.{AreGood, TellsBadWord, word_name, word_path}
+use Rattle.rh_desk.specs.FileWords.{AreGood, word_name}
+use Rattle.rh_desk.specs.Inputs.{IsAllOf, TellsLostInput}
 use Rattle.rh_desk.specs.Requests.{AsksFor, AsksNothing}
 use Rattle.rh_desk.specs.SheetNames.{last_part}
-use Rattle.rh_desk.specs.Telling.{Tells, lost_file_text, run_fault_text}
+use Rattle.rh_desk.specs.Telling.{Tells, TellsBadWord, TellsFolder, TellsLoss, TellsLostFile, run_fault_text}
 use Rattle.rh_desk.specs.declared.ending.Ending.{Ending}
 use Rattle.rh_desk.specs.declared.ending.Ending.TheVariants.{Clean, BadLines, WrongWords, Fault}
 use Rattle.rh_desk.specs.declared.request.ImageKind.{ImageKind}
@@ -123,12 +124,15 @@ ShownOver (Sheet marked) script d s ending = SheetOver marked (sheet_name script
 abbrev pub instead : Option (List ℕ) → Input → Streams → Streams
 instead left rest s = record s { before = record { left = left; failed = false; reads = 0 }; after = rest }
 
--- how the script of a file ends: its run, where the input stays, or the lost file, or want of memory, is told
+-- how the script of a file ends: its run, where the input stays, with a line more where a folder can't be read; or the
+-- lost file, or want of memory, is told
 abbrev pub FileOver : {F : Type 0} → (F → Option (List ℕ)) → Shown → Desk → List ℕ → Streams → Ending → Type 0
 FileOver {F} remaining shown d path s ending =
-    ((s.after ≡ s.before) × ((file : F) × (rest : Input) × ShownOver shown path d (instead (remaining file) rest s) ending))
+    ((s.after ≡ s.before) × ((file : F) × (rest : Input) × (told : Output)
+    × ShownOver shown path d (record (instead (remaining file) rest s) { told = told }) ending
+    × TellsFolder told s.told ending))
     ⊎ (Untouched s × (ending ≡ Fault)
-    × (Tells s.quiet s.told (lost_file_text path) ⊎ Tells s.quiet s.told (run_fault_text NoMemory)))
+    × (TellsLoss s.quiet s.told path ⊎ Tells s.quiet s.told (run_fault_text NoMemory)))
 
 -- how a script over good words and their files ends: `-` is the input, and all else a file's path
 pub record ScriptOver {F : Type 0} (remaining : F → Option (List ℕ)) (shown : Shown) (pages : ℕ) (script : List ℕ) (words : List (List ℕ)) (s : Streams) (ending : Ending) : Type 0 where
@@ -138,11 +142,6 @@ pub record ScriptOver {F : Type 0} (remaining : F → Option (List ℕ)) (shown 
   pub whole : All (λ file. IsWhole remaining file.1) files
   pub from_input : script ≡ codes "-" → ShownOver shown script (start pages files) s ending
   pub from_file : script ≢ codes "-" → FileOver remaining shown (start pages files) script s ending
-
--- one of the words' files was lost, and its path told
-abbrev pub TellsLostFile : Output → Output → List (List ℕ) → Ending → Type 0
-TellsLostFile quiet told words ending =
-    (word : List ℕ) × (ending ≡ Fault) × Contains words word × Tells quiet told (lost_file_text (word_path word))
 
 -- how `run`, `map` and `draw` end: with their script, or before, where the first bad word is told, or want of memory, or of good words a
 -- lost file
@@ -177,13 +176,21 @@ abbrev pub CheckEnds : {F : Type 0} → (F → Option (List ℕ)) → ImageKind 
 CheckEnds remaining k path s ending =
     ((bytes : List ℕ) × IsWhole remaining bytes × CheckOver k bytes s ending)
     ⊎ ((s.new ≡ s.old) × (ending ≡ Fault)
-    × (Tells s.quiet s.told (lost_file_text path) ⊎ Tells s.quiet s.told (run_fault_text NoMemory)))
+    × (TellsLoss s.quiet s.told path ⊎ Tells s.quiet s.told (run_fault_text NoMemory)))
+
+-- how `check -` ends: with the line of all bytes of the input, or nothing is written and the lost input told
+abbrev pub InputCheckEnds : ImageKind → Streams → Ending → Type 0
+InputCheckEnds k s ending =
+    ((bytes : List ℕ) × IsAllOf s.before s.after bytes × CheckOver k bytes s ending)
+    ⊎ ((s.new ≡ s.old) × (ending ≡ Fault) × TellsLostInput s.after s.quiet s.told)
 
 -- how what is asked for ends
 abbrev pub RequestEnds : {F : Type 0} → (F → Option (List ℕ)) → Request → Streams → Ending → Type 0
 RequestEnds remaining (Run request) s ending =
     RunEnds remaining request.shown request.pages request.script.now (map (λ word. word.now) request.files.now) s ending
-RequestEnds remaining (Check k file) s ending = (s.after ≡ s.before) × CheckEnds remaining k file.now s ending
+RequestEnds remaining (Check k file) s ending =
+    (file.now ≡ codes "-" → InputCheckEnds k s ending)
+    × (file.now ≢ codes "-" → (s.after ≡ s.before) × CheckEnds remaining k file.now s ending)
 
 -- how an error of some kind in the words ends: help and the version are written, all else is told
 abbrev pub ErrorEnds : ErrorKind → Streams → Ending → Type 0

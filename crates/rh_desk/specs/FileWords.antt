@@ -2,11 +2,6 @@
 use Rattle.std.specs.Prelude.{◌≡◌, ◌≢◌, ◌⊎◌, ℕ, ◌==◌, ◌&&◌, not, Bool, false, List, ◌∷◌, ◌++◌, map, length, AllPairs, Contains}
 use Rattle.std.specs.List.{AllPass, before_first, after_first}
 use Rattle.rh_defs.specs.Forms.{is_name}
-use Rattle.rh_lines.specs.Flow.{Output}
-use Rattle.rh_session.specs.declared.status.RunFault.TheVariants.{NoMemory}
-use Rattle.rh_desk.specs.Telling.{Tells, bad_word_text, lost_file_text, run_fault_text}
-use Rattle.rh_desk.specs.declared.ending.Ending.{Ending}
-use Rattle.rh_desk.specs.declared.ending.Ending.TheVariants.{WrongWords, Fault}
 
 -- what stands before the first `=` of a word, and behind it
 abbrev pub word_name : List ℕ → List ℕ
@@ -31,15 +26,3 @@ pub record IsFirstBad (words : List (List ℕ)) (word : List ℕ) : Type 0 where
   pub whole : words ≡ before ++ word ∷ behind
   pub good : AreGood before
   pub bad : (is_file_word word ≡ false) ⊎ Contains (map word_name before) (word_name word)
-
--- the first bad word was told, or that memory was refused
-abbrev pub TellsBadWord : Output → Output → List (List ℕ) → Ending → Type 0
-TellsBadWord old new words ending =
-    ((ending ≡ Fault) × Tells old new (run_fault_text NoMemory))
-    ⊎ ((word : List ℕ) × (ending ≡ WrongWords) × IsFirstBad words word × Tells old new (bad_word_text word))
-
--- the same, or the path of one of the words was told, since its file can't be had
-abbrev pub TellsBadFile : Output → Output → List (List ℕ) → Ending → Type 0
-TellsBadFile old new words ending =
-    TellsBadWord old new words ending
-    ⊎ ((word : List ℕ) × (ending ≡ Fault) × Contains words word × Tells old new (lost_file_text (word_path word)))

@@ -3,6 +3,8 @@ pub mod Done
 pub mod Ending
 pub mod FileWords
 pub mod Inner
+pub mod Inputs
+pub mod Reasons
 pub mod Requests
 pub mod SheetNames
 pub mod Telling

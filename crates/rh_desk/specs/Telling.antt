@@ -1,8 +1,16 @@
 -- What the program tells of faults.
-use Rattle.std.specs.Prelude.{◌≡◌, ℕ, ◌==◌, false, if◌then◌else◌, List, ◌++◌, length, codes}
+use Rattle.std.specs.Prelude.{◌≡◌, ◌⊎◌, ℕ, ◌==◌, false, if◌then◌else◌, List, [], ◌∷◌, ◌++◌, flat_map, length, codes, Contains}
+use Rattle.std.specs.Char.{is_ascii_control}
+use Rattle.hex.specs.Hex.{encode_lower}
 use Rattle.rh_lines.specs.Flow.{Output, Takes}
 use Rattle.rh_session.specs.declared.status.RunFault.{RunFault}
 use Rattle.rh_session.specs.declared.status.RunFault.TheVariants.{NoMemory, ReadFailed, WriteFailed, TooLong}
+use Rattle.rh_desk.specs.FileWords.{IsFirstBad, word_path}
+use Rattle.rh_desk.specs.Reasons.{loss_text, word_fault, word_fault_text}
+use Rattle.rh_desk.specs.declared.ending.Ending.{Ending}
+use Rattle.rh_desk.specs.declared.ending.Ending.TheVariants.{WrongWords, Fault}
+use Rattle.rh_desk.specs.declared.reasons.FileLoss.{FileLoss}
+use Rattle.rh_desk.specs.declared.reasons.FileLoss.TheVariants.{Folder}
 
 -- just these bytes were taken, unless a write failed
 abbrev pub Tells : Output → Output → List ℕ → Type 0
@@ -15,14 +23,46 @@ run_fault_text ReadFailed = codes "rh_desk: read failed\n"
 run_fault_text WriteFailed = codes "rh_desk: write failed\n"
 run_fault_text TooLong = codes "rh_desk: script too long\n"
 
--- what is told of a word that is no NAME=PATH
+-- how a byte is shown: a control byte as `\x` and its two digits, any other as it is
+abbrev pub told_byte : ℕ → List ℕ
+told_byte b = if is_ascii_control b then codes "\\x" ++ encode_lower (b ∷ []) else b ∷ []
+
+-- how a word is shown
+abbrev pub told_word : List ℕ → List ℕ
+told_word word = flat_map told_byte word
+
+-- what is told of a word that is no NAME=PATH, and below it why
 abbrev pub bad_word_text : List ℕ → List ℕ
-bad_word_text word = codes "rh_desk: bad file word " ++ (word ++ codes "\n")
+bad_word_text word =
+    codes "rh_desk: bad file word " ++ (told_word word ++ (codes "\n" ++ word_fault_text (word_fault word)))
 
 -- how a path is shown: the empty one in words
 abbrev pub shown_path : List ℕ → List ℕ
-shown_path path = if length path == 0 then codes "'' (an empty path)" else path
+shown_path path = if length path == 0 then codes "'' (an empty path)" else told_word path
 
--- what is told of a file that can't be had
-abbrev pub lost_file_text : List ℕ → List ℕ
-lost_file_text path = codes "rh_desk: file " ++ (shown_path path ++ codes "\n")
+-- what is told of a file that can't be had, and below it why
+abbrev pub lost_file_text : List ℕ → FileLoss → List ℕ
+lost_file_text path loss = codes "rh_desk: file " ++ (shown_path path ++ (codes "\n" ++ loss_text loss))
+
+-- a file that can't be had was told, with some reason
+abbrev pub TellsLoss : Output → Output → List ℕ → Type 0
+TellsLoss old new path = (loss : FileLoss) × Tells old new (lost_file_text path loss)
+
+-- the first bad word was told, or that memory was refused
+abbrev pub TellsBadWord : Output → Output → List (List ℕ) → Ending → Type 0
+TellsBadWord old new words ending =
+    ((ending ≡ Fault) × Tells old new (run_fault_text NoMemory))
+    ⊎ ((word : List ℕ) × (ending ≡ WrongWords) × IsFirstBad words word × Tells old new (bad_word_text word))
+
+-- the path of one of the words was told, since its file can't be had
+abbrev pub TellsLostFile : Output → Output → List (List ℕ) → Ending → Type 0
+TellsLostFile old new words ending =
+    (word : List ℕ) × (ending ≡ Fault) × Contains words word × TellsLoss old new (word_path word)
+
+-- the first bad word was told, or a lost file
+abbrev pub TellsBadFile : Output → Output → List (List ℕ) → Ending → Type 0
+TellsBadFile old new words ending = TellsBadWord old new words ending ⊎ TellsLostFile old new words ending
+
+-- nothing more was told, or that a script which can't be read is a folder
+abbrev pub TellsFolder : Output → Output → Ending → Type 0
+TellsFolder old new ending = (new ≡ old) ⊎ ((ending ≡ Fault) × Tells old new (loss_text Folder))

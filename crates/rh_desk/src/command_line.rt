@@ -197,7 +197,7 @@ fn checking<'a>(alloc: Global) -> Result<Command<'a>, AllocError>
         .action(ArgAction::SetTrue);
     let file = Arg::new(alloc, "file")
         .value_name("FILE")
-        .help("The bytes, 1048576 at most")
+        .help("The bytes, 1048576 at most; - for standard input")
         .required(true)
         .action(ArgAction::Set);
     Command::new(alloc, "check")

@@ -6,11 +6,12 @@ ghost use Rattle.std.specs.Option.{option_map};
 ghost use Rattle.rh_defs.specs.declared.sizes.TheConstants.{LONGEST_FILE};
 ghost use Rattle.rh_desk.specs.Done.{IsWhole};
 ghost use Rattle.rh_desk.specs.Ending.{exit_status};
-ghost use Rattle.rh_desk.specs.FileWords.{AreGood, IsFirstBad, TellsBadFile, TellsBadWord, word_name};
+ghost use Rattle.rh_desk.specs.FileWords.{AreGood, IsFirstBad, word_name};
 ghost use Rattle.rh_desk.specs.Inner.WordOfFile.{file_word};
-ghost use Rattle.rh_desk.specs.Telling.{Tells, lost_file_text, run_fault_text};
+ghost use Rattle.rh_desk.specs.Telling.{Tells, TellsBadFile, TellsBadWord, TellsLoss, run_fault_text};
 
 use crate::ending::Ending;
+use crate::reasons::FileLoss;
 use crate::telling::{ended, tell_bad_word, tell_file};
 use rh_defs::sizes::LONGEST_FILE;
 use rh_defs::{Files, Name};
@@ -99,17 +100,18 @@ pub fn read_whole<R: rt::Files, E: Sink>(
     ensures ok { IfOk result (λ bytes. vec_len bytes ≤ LONGEST_FILE) }
     ensures whole { IfOk result (λ bytes. IsWhole R.File.remaining (vec_items bytes)) }
     ensures err { IfErr result (λ ending. ending ≡ Ending.Fault) }
-    ensures told { IfErr result (λ ending. Tells (E.output errors.old) (E.output errors.new) (lost_file_text path.now)
+    ensures told { IfErr result (λ ending. TellsLoss (E.output errors.old) (E.output errors.new) path.now
         ⊎ Tells (E.output errors.old) (E.output errors.new) (run_fault_text RunFault.NoMemory)) }
     ensures quiet { IfOk result (λ _. E.output errors.new ≡ E.output errors.old) }
 {
     let mut bytes = Vec::new(alloc);
     match read_into(runtime, path, &mut bytes) {
         Ok(()) if bytes.len() <= LONGEST_FILE => Ok(bytes),
+        Ok(()) => Err(tell_file(path, FileLoss::TooLong, errors)),
         Err(error) if error.kind() == io::ErrorKind::OutOfMemory => {
             Err(ended(Err(RunFault::NoMemory), errors))
         }
-        _ => Err(tell_file(path, errors)),
+        Err(error) => Err(tell_file(path, FileLoss::of(&error), errors)),
     }
 }
 

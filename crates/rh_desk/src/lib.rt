@@ -4,7 +4,10 @@
 mod command_line;
 mod ending;
 mod files;
+mod input;
+mod reasons;
 mod request;
+mod shown_words;
 mod telling;
 mod words;
 

@@ -3,15 +3,20 @@
 ghost use Rattle.std.specs.Prelude.{◌≡◌, ◌≢◌, ◌⊎◌, ◌≤◌, ◌++◌, codes, true};
 ghost use Rattle.clap.specs.Values.{kind_of};
 ghost use Rattle.rh_desk.specs.Ending.{ending_of, exit_status};
-ghost use Rattle.rh_desk.specs.Telling.{Tells, bad_word_text, lost_file_text, run_fault_text, shown_path};
-ghost use Rattle.rh_lines.specs.Flow.{Puts};
+ghost use Rattle.rh_desk.specs.Reasons.{loss_text};
+ghost use Rattle.rh_desk.specs.Telling.{Tells, TellsFolder, bad_word_text, lost_file_text, run_fault_text, shown_path};
 
 use crate::ending::Ending;
+use crate::reasons::{FileLoss, WordFault};
+use crate::shown_words::put_shown;
 use clap::Error;
 use clap::error::ErrorKind;
-use rh_lines::{Sink, WriteFailed, put};
+use rh_lines::{Pen, Sink, WriterPen, put};
 use rh_run::{RunFault, Status};
 use std::alloc::Global;
+
+/// So many bytes of what is told are held, and written by one call.
+const HELD: usize = 600;
 
 /// How a run's outcome ends the program; a fault is told.
 #[tactic(auto, using(crate::proofs::TellLemmas::puts_tells))]
@@ -80,41 +85,62 @@ pub fn told<O: Sink, E: Sink>(
     }
 }
 
-/// Tells of a file that can't be opened, or can't be read whole.
-#[tactic(auto, using(crate::proofs::TellLemmas::puts_tells))]
-pub fn tell_file<E: Sink>(path: &str, errors: &mut E) -> Ending
+/// Tells of a file that can't be opened, or can't be read whole, and why.
+pub fn tell_file<E: Sink>(path: &str, loss: FileLoss, errors: &mut E) -> Ending
     ensures ending { result ≡ Ending.Fault }
-    ensures told { Tells (E.output errors.old) (E.output errors.new) (lost_file_text path.now) }
+    ensures told { Tells (E.output errors.old) (E.output errors.new) (lost_file_text path.now loss) }
 {
-    let _told = put_line(b"rh_desk: file ", shown_path(path), errors);
+    let mut room = [0; HELD];
+    let mut pen = WriterPen::new(errors, &mut room);
+    put_lost_file(path, loss, &mut pen);
+    let _told = pen.finish();
     Ending::Fault
 }
 
-/// How a path is shown.
-fn shown_path(path: &str) -> &str
-    ensures { result.now ≡ shown_path path.now }
+fn put_lost_file<P: Pen>(path: &str, loss: FileLoss, pen: &mut P)
+    ensures { P.offered pen.new ≡ P.offered pen.old ++ lost_file_text path.now loss }
+{
+    pen.put(b"rh_desk: file ");
+    put_path(path, pen);
+    pen.put(b"\n");
+    pen.put(loss.text());
+}
+
+/// Tells that a script which can't be read is a folder.
+#[tactic(auto, using(crate::proofs::TellLemmas::puts_tells))]
+pub fn tell_folder<E: Sink>(errors: &mut E)
+    ensures { Tells (E.output errors.old) (E.output errors.new) (loss_text FileLoss.Folder) }
+{
+    let _told = put(errors, FileLoss::Folder.text());
+}
+
+fn put_path<P: Pen>(path: &str, pen: &mut P)
+    ensures { P.offered pen.new ≡ P.offered pen.old ++ shown_path path.now }
 {
     if path.is_empty() {
-        "'' (an empty path)"
+        pen.put(b"'' (an empty path)");
     } else {
-        path
+        put_shown(path.as_bytes(), pen);
     }
 }
 
-/// Tells of a NAME=PATH word that is none.
-#[tactic(auto, using(crate::proofs::TellLemmas::puts_tells))]
+/// Tells of a bad NAME=PATH word, and why.
 pub fn tell_bad_word<E: Sink>(word: &str, errors: &mut E) -> Ending
     ensures ending { result ≡ Ending.WrongWords }
     ensures told { Tells (E.output errors.old) (E.output errors.new) (bad_word_text word.now) }
 {
-    let _told = put_line(b"rh_desk: bad file word ", word, errors);
+    let mut room = [0; HELD];
+    let mut pen = WriterPen::new(errors, &mut room);
+    put_bad_word(word, &mut pen);
+    let _told = pen.finish();
     Ending::WrongWords
 }
 
-fn put_line<E: Sink>(text: &[u8], word: &str, errors: &mut E) -> Result<(), WriteFailed>
-    ensures { Puts (E.output errors.old) (E.output errors.new) result (text.now ++ (word.now ++ codes "\n")) }
+fn put_bad_word<P: Pen>(word: &str, pen: &mut P)
+    ensures { P.offered pen.new ≡ P.offered pen.old ++ bad_word_text word.now }
 {
-    put(errors, text)?;
-    put(errors, word.as_bytes())?;
-    put(errors, b"\n")
+    pen.put(b"rh_desk: bad file word ");
+    put_shown(word.as_bytes(), pen);
+    pen.put(b"\n");
+    pen.put(WordFault::of(word).text());
 }

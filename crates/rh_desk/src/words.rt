@@ -3,7 +3,8 @@
 ghost use Rattle.std.specs.Prelude.{◌≡◌, ◌≢◌, ◌≤◌, ◌<◌, [], codes, length, map, string_bytes, IfOk, IfErr};
 ghost use Rattle.rh_defs.specs.Runs.{start};
 ghost use Rattle.rh_desk.specs.declared.command_line.TheConstants.{PAGES};
-ghost use Rattle.rh_desk.specs.Done.{CheckEnds, MapOver, RunEnds, RunOver, SheetOver, ShownOver, WordsEnd, line_as};
+ghost use Rattle.rh_desk.specs.Done.{CheckEnds, FileOver, InputCheckEnds, MapOver, RunEnds, RunOver, SheetOver};
+ghost use Rattle.rh_desk.specs.Done.{ShownOver, WordsEnd, line_as};
 ghost use Rattle.rh_desk.specs.Done.{sheet_name as name_of_sheet, status_as, streams};
 ghost use Rattle.rh_desk.specs.Ending.{ending_of, exit_status};
 ghost use Rattle.rh_desk.specs.Telling.{Tells, run_fault_text};
@@ -16,18 +17,18 @@ ghost use Rattle.rh_defs.specs.declared.sizes.TheConstants.{MAX_PAGES, MIN_PAGES
 use crate::command_line::{PAGES, parsed, request_of};
 use crate::ending::Ending;
 use crate::files::{check_words, read_files, read_whole};
+use crate::input::{INPUT, read_input};
+use crate::reasons::FileLoss;
 use crate::request::{ImageKind, Request, RunRequest, Shown};
-use crate::telling::{ended, tell_file, told};
+use crate::telling::{ended, tell_file, tell_folder, told};
 use memchr::memrchr;
 use rh_defs::Files;
 use rh_lines::{Flagged, Sink, Source, put};
 use rh_run::{RunFault, Status, check_image, check_slot_image, draw_map, draw_sheet, run};
 use std::alloc::Global;
-use std::fs::File;
-use std::{io, rt};
-
-/// The SCRIPT that stands for the input.
-const INPUT: &str = "-";
+use std::fs::{File, OpenFile};
+use std::io::{self, Read};
+use std::rt;
 
 /// The name of the input in a sheet.
 const INPUT_NAME: &[u8] = b"standard input";
@@ -234,7 +235,7 @@ fn run_words<R: rt::Files, I: Source, O: Sink, E: Sink>(
     };
     match request_of(&matches) {
         Some(Request::Check { kind, file }) => {
-            check_file(runtime, alloc, kind, file, output, errors)
+            check_file(runtime, alloc, kind, file, input, output, errors)
         }
         Some(Request::Run(request)) => {
             run_request(runtime, alloc, &request, input, output, errors)
@@ -272,34 +273,87 @@ fn run_request<R: rt::Files, I: Source, O: Sink, E: Sink>(
         return show_told(alloc, files, request, input, output, errors);
     }
     match File::open(runtime, request.script) {
-        Ok(file) => {
-            let mut reader = Flagged::new(file);
-            show_told(alloc, files, request, &mut reader, output, errors)
-        }
+        Ok(file) => show_file(alloc, files, request, file, output, errors),
         Err(error) if error.kind() == io::ErrorKind::OutOfMemory => {
             ended(Err(RunFault::NoMemory), errors)
         }
-        Err(_) => tell_file(request.script, errors),
+        Err(error) => tell_file(request.script, FileLoss::of(&error), errors),
     }
 }
 
-/// Says whether the bytes of a file are of a kind.
-fn check_file<R: rt::Files, O: Sink, E: Sink>(
-    runtime: &R,
+/// Writes what is to be written of the script in a file. That a script which can't be read is a folder is told.
+fn show_file<F: Read + OpenFile + Drop, O: Sink, E: Sink>(
     alloc: Global,
-    kind: ImageKind,
-    path: &str,
+    files: Files,
+    request: &RunRequest<'_, '_>,
+    file: F,
     output: &mut O,
     errors: &mut E,
 ) -> Ending
     ensures well { exit_status result ≤ 1 → (O.output output.new).failed ≡ (O.output output.old).failed }
     ensures run { result ≡ Ending.WrongWords → ⊥ }
-    ensures ends { (before : Input) → CheckEnds R.File.remaining kind path.now
-        (streams before before (O.output output.old) (O.output output.new) (E.output errors.old)
-        (E.output errors.new)) result }
+    ensures over { (input : Input) → FileOver F.remaining request.now.shown (start request.now.pages files)
+        request.now.script.now (streams input input (O.output output.old) (O.output output.new)
+        (E.output errors.old) (E.output errors.new)) result }
 {
+    let is_folder = is_folder(&file);
+    let mut reader = Flagged::new(file);
+    let ending = show_told(alloc, files, request, &mut reader, output, errors);
+    if is_folder && ending == Ending::Fault {
+        tell_folder(errors);
+    }
+    ending
+}
+
+fn is_folder<F: OpenFile>(file: &F) -> bool {
+    match file.metadata() {
+        Ok(metadata) => metadata.is_dir(),
+        Err(_) => false,
+    }
+}
+
+/// Says whether the bytes of a file, or those of the input for `-`, are of a kind.
+fn check_file<R: rt::Files, I: Source, O: Sink, E: Sink>(
+    runtime: &R,
+    alloc: Global,
+    kind: ImageKind,
+    path: &str,
+    input: &mut I,
+    output: &mut O,
+    errors: &mut E,
+) -> Ending
+    ensures well { exit_status result ≤ 1 → (O.output output.new).failed ≡ (O.output output.old).failed }
+    ensures run { result ≡ Ending.WrongWords → ⊥ }
+    ensures of_file { path.now ≢ codes "-" → (I.input input.new ≡ I.input input.old)
+        × CheckEnds R.File.remaining kind path.now (streams (I.input input.old) (I.input input.new)
+        (O.output output.old) (O.output output.new) (E.output errors.old) (E.output errors.new)) result }
+    ensures of_input { path.now ≡ codes "-" → InputCheckEnds kind (streams (I.input input.old) (I.input input.new)
+        (O.output output.old) (O.output output.new) (E.output errors.old) (E.output errors.new)) result }
+{
+    if path == INPUT {
+        return check_input(alloc, kind, input, output, errors);
+    }
     match read_whole(runtime, alloc, path, errors) {
         Ok(bytes) => ended(check_bytes(kind, bytes.as_slice(), output), errors),
+        Err(ending) => ending,
+    }
+}
+
+/// Says whether the bytes of the input are of a kind.
+fn check_input<I: Source, O: Sink, E: Sink>(
+    alloc: Global,
+    kind: ImageKind,
+    input: &mut I,
+    output: &mut O,
+    errors: &mut E,
+) -> Ending
+    ensures well { exit_status result ≤ 1 → (O.output output.new).failed ≡ (O.output output.old).failed }
+    ensures run { result ≡ Ending.WrongWords → ⊥ }
+    ensures ends { InputCheckEnds kind (streams (I.input input.old) (I.input input.new)
+        (O.output output.old) (O.output output.new) (E.output errors.old) (E.output errors.new)) result }
+{
+    match read_input(alloc, input, errors) {
+        Ok(image) => ended(check_bytes(kind, image.as_slice(), output), errors),
         Err(ending) => ending,
     }
 }

@@ -34,7 +34,7 @@ MARKED = b"Show marked steps alone: a line #picture marks the next"
 HELP = [
     (["--help"], USAGE),
     (["run", "--help"], [PAGES, SCRIPT, FILES]),
-    (["check", "--help"], [b"The bytes, 1048576 at most", b"Take the bytes for a slot, not for a heap"]),
+    (["check", "--help"], [b"The bytes, 1048576 at most; - for standard input", b"Take the bytes for a slot, not for a heap"]),
     (["map", "--help"], [b"Run a script and print a map of memory after each step", PAGES, MARKED, SCRIPT, FILES]),
     (["draw", "--help"], [b"Run a script and print a page of HTML with a figure of memory after each step", PAGES,
                           MARKED, SCRIPT, FILES]),
@@ -91,7 +91,7 @@ def test_usage_shows_that_no_words_run_the_input(suite):
 
 def test_a_script_that_cannot_be_opened_is_told(suite):
     """A script that isn't there is told by its path."""
-    lost = b"rh_desk: file no-such-script.desk\n"
+    lost = b"rh_desk: file no-such-script.desk\n  no such file\n"
     for verb in ("run", "map", "draw"):
         suite.ends(f"a lost script to {verb}", [verb, "no-such-script.desk"], b"", lost, 3)
 
@@ -111,23 +111,25 @@ def test_a_bad_line_of_a_script_is_told(suite):
 
 def test_a_script_that_cannot_be_read_is_told(suite):
     """A script that can be opened and not read is told."""
-    suite.ends("a folder as a script", ["run", "."], b"", b"rh_desk: read failed\n", 3)
+    suite.ends("a folder as a script", ["run", "."], b"", b"rh_desk: read failed\n  a folder\n", 3)
 
 
 def test_a_long_path_is_told_whole(suite):
     """A path of 4,500 bytes is told whole, as a script, as bytes, as a file and as a word that names none."""
     path = "lost/" * 900
-    lost = f"rh_desk: file {path}\n".encode()
+    lost = f"rh_desk: file {path}\n  can't be read\n".encode()
     for words in [["run", path], ["check", path], ["run", "-", f"a={path}"]]:
         suite.ends(f"a long path to {words[0]}", words, b"", lost, 3, stdin=b"areas\n")
-    told = f"rh_desk: bad file word {path}\n".encode()
+    no_pair = "no = stands in it: one script is run, and files are given as NAME=PATH"
+    told = f"rh_desk: bad file word {path}\n  {no_pair}\n".encode()
     suite.ends("a long word", ["run", "-", path], b"", told, 2, stdin=b"areas\n")
 
 
 def test_an_empty_path_is_shown(suite):
     """An empty path is told as such."""
     for verb in ("run", "check"):
-        suite.ends(f"an empty path to {verb}", [verb, ""], b"", b"rh_desk: file '' (an empty path)\n", 3)
+        told = b"rh_desk: file '' (an empty path)\n  no such file\n"
+        suite.ends(f"an empty path to {verb}", [verb, ""], b"", told, 3)
 
 
 def test_the_input_is_run_for_a_hyphen(suite):
@@ -139,7 +141,7 @@ def test_the_input_is_run_for_a_hyphen(suite):
 
 def test_a_script_may_begin_with_a_hyphen(suite):
     """Behind `--` a script's name may begin with a hyphen."""
-    suite.ends("behind --", ["run", "--", "-x"], b"", b"rh_desk: file -x\n", 3, stdin=b"areas\n")
+    suite.ends("behind --", ["run", "--", "-x"], b"", b"rh_desk: file -x\n  no such file\n", 3, stdin=b"areas\n")
 
 
 def test_pages_are_asked_for_anywhere(suite):

@@ -43,12 +43,18 @@ def test_script_with_files(suite):
 
 
 def test_lost_files(suite):
-    """A file that may not be opened is told by its path, for whatever reason."""
+    """A file that can't be opened is told by its path, and below it why."""
     pathlib.Path("kept.bin").write_bytes(b"kept")
     os.chmod("kept.bin", 0)
     user = NOBODY if os.geteuid() == 0 else None
-    for path in ["kept.bin", "kept.bin/below", "x" * 300, "lost.bin"]:
-        told = f"rh_desk: file {path}\n".encode()
+    reasons = {
+        "kept.bin": "not allowed to be read",
+        "kept.bin/below": "no such file",
+        "x" * 300: "can't be read",
+        "lost.bin": "no such file",
+    }
+    for path, why in reasons.items():
+        told = f"rh_desk: file {path}\n  {why}\n".encode()
         checks = [["check", path], ["check", "--slot", path]]
         scripts = [words for verb in SCRIPT_VERBS for words in ([verb, path], [verb, "-", f"a={path}"])]
         for words in checks + scripts:
@@ -64,32 +70,57 @@ def test_unreadable_scripts(suite):
     suite.is_true("the end of a sheet without steps", sheet.endswith(FOOT))
     for verb in SCRIPT_VERBS:
         written = sheet[: -len(FOOT)] if verb == "draw" else b""
-        suite.ends(f"{verb} of a folder", [verb, "nothing/folder"], written, b"rh_desk: read failed\n", 3)
+        told = b"rh_desk: read failed\n  a folder\n"
+        suite.ends(f"{verb} of a folder", [verb, "nothing/folder"], written, told, 3)
 
 
 def test_bad_file_words_are_told_before_any_file(suite):
     """A word that names no file is told before any file is opened."""
-    for first, second, bad in [
-        ("logo", "b=lost.bin", "logo"),
-        ("a=lost.bin", "=lost.bin", "=lost.bin"),
-        ("a=lost.bin", "b=", "b="),
-        ("a=lost.bin", "a=other.bin", "a=other.bin"),
-        ("1a=lost.bin", "b=", "1a=lost.bin"),
-        ("thirteenbytes=x", "b=lost.bin", "thirteenbytes=x"),
+    no_pair = "no = stands in it: one script is run, and files are given as NAME=PATH"
+    no_name = "a name has 1 to 12 letters and digits, a letter first"
+    no_path = "no path stands behind the ="
+    for first, second, bad, why in [
+        ("logo", "b=lost.bin", "logo", no_pair),
+        ("a=lost.bin", "other.desk", "other.desk", no_pair),
+        ("a=lost.bin", "", "", no_pair),
+        ("a=lost.bin", "=lost.bin", "=lost.bin", no_name),
+        ("a=lost.bin", "=", "=", no_name),
+        ("a=lost.bin", "b=", "b=", no_path),
+        ("a=lost.bin", "a=", "a=", no_path),
+        ("a=lost.bin", "a=other.bin", "a=other.bin", "its name is given twice"),
+        ("a=lost.bin", "a=b=c", "a=b=c", "its name is given twice"),
+        ("1a=lost.bin", "b=", "1a=lost.bin", no_name),
+        ("thirteenbytes=x", "b=lost.bin", "thirteenbytes=x", no_name),
+        ("twelvebytes1=x", "b_=lost.bin", "b_=lost.bin", no_name),
     ]:
-        told = f"rh_desk: bad file word {bad}\n".encode()
+        told = f"rh_desk: bad file word {bad}\n  {why}\n".encode()
         suite.ends(f"bad file word {bad}", ["run", "lost.desk", first, second], b"", told, 2)
     for verb in ("map", "draw"):
         words = [verb, "--marked", "-", "a="]
-        suite.ends(f"bad file word of {verb}", words, b"", b"rh_desk: bad file word a=\n", 2, stdin=b"areas\n")
+        told = f"rh_desk: bad file word a=\n  {no_path}\n".encode()
+        suite.ends(f"bad file word of {verb}", words, b"", told, 2, stdin=b"areas\n")
+
+
+def test_control_bytes_of_words_are_shown_as_digits(suite):
+    """No control byte of a word or a path reaches a terminal; other bytes are told as they are."""
+    for byte, shown in [("\n", "0a"), ("\x01", "01"), ("\x1b", "1b"), ("\x1f", "1f"), ("\x7f", "7f"), ("\t", "09")]:
+        told = f"rh_desk: bad file word a\\x{shown}[2J\n  no = stands in it: one script is run, and files are given as NAME=PATH\n"
+        suite.ends(f"byte {shown} of a word", ["run", "-", f"a{byte}[2J"], b"", told.encode(), 2, stdin=b"areas\n")
+        for words in [["run", f"lost{byte}{byte}.desk"], ["check", f"lost{byte}{byte}.desk"], ["run", "-", f"a=lost{byte}{byte}.desk"]]:
+            told = f"rh_desk: file lost\\x{shown}\\x{shown}.desk\n  no such file\n"
+            suite.ends(f"byte {shown} of a path: {words[0]}", words, b"", told.encode(), 3, stdin=b"areas\n")
+    plain = " !~\\x\u00e9\u2192"
+    told = f"rh_desk: file lost{plain}\n  no such file\n"
+    suite.ends("bytes that are no control bytes", ["run", f"lost{plain}"], b"", told.encode(), 3)
 
 
 def test_files_are_read_before_the_script(suite):
     """A file that is lost is told before a script that is."""
     pathlib.Path("here.bin").write_bytes(b"abc")
     words = ["run", "lost.desk", "a=here.bin"]
-    suite.ends("a lost file and a lost script", [*words, "b=lost.bin"], b"", b"rh_desk: file lost.bin\n", 3)
-    suite.ends("a lost script", words, b"", b"rh_desk: file lost.desk\n", 3)
+    told = b"rh_desk: file lost.bin\n  no such file\n"
+    suite.ends("a lost file and a lost script", [*words, "b=lost.bin"], b"", told, 3)
+    suite.ends("a lost script", words, b"", b"rh_desk: file lost.desk\n  no such file\n", 3)
 
 
 def test_files_are_loaded_by_their_names(suite):
@@ -115,7 +146,7 @@ def test_each_file_has_its_own_bytes(suite):
 def test_a_file_that_cannot_be_read_is_told(suite):
     """A folder is told as a file that can't be had."""
     for words in [["check", "."], ["run", "-", "a=."]]:
-        suite.ends(f"a folder: {words}", words, b"", b"rh_desk: file .\n", 3, stdin=b"areas\n")
+        suite.ends(f"a folder: {words}", words, b"", b"rh_desk: file .\n  a folder\n", 3, stdin=b"areas\n")
 
 
 def test_files_are_loaded_whole(suite):
@@ -137,4 +168,5 @@ def test_a_file_has_a_limit(suite):
     suite.ends("the most bytes", words, listed, b"", 0, stdin=b"task a 100\nload a 0 a\nblocks a\n")
     suite.ends("check of the most bytes", ["check", "most.bin"], b"bad BadDescriptor\n", b"", 1)
     for words in [["run", "-", "a=more.bin"], ["check", "more.bin"]]:
-        suite.ends(f"a byte more: {words}", words, b"", b"rh_desk: file more.bin\n", 3)
+        told = b"rh_desk: file more.bin\n  more than 1048576 bytes\n"
+        suite.ends(f"a byte more: {words}", words, b"", told, 3)

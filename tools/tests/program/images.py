@@ -1,5 +1,6 @@
 """Bytes that are checked: heaps and slots as long as may be, and such with one fault near the end."""
 
+import os
 import pathlib
 import struct
 
@@ -168,4 +169,38 @@ def test_a_slot_is_no_heap(suite):
 def test_a_lost_file_is_told(suite):
     """Bytes that aren't there are told by their path."""
     for words in [["check", "lost.bin"], ["check", "--slot", "lost.bin"]]:
-        suite.ends(f"a lost file: {words}", words, b"", b"rh_desk: file lost.bin\n", 3)
+        suite.ends(f"a lost file: {words}", words, b"", b"rh_desk: file lost.bin\n  no such file\n", 3)
+
+
+def test_the_bytes_of_the_input_are_checked(suite):
+    """A hyphen stands for standard input: all of its bytes are looked at, from a pipe and from a file."""
+    heap = b"Heap" + struct.pack("<3I", 0, 16, 16)
+    pathlib.Path("heap.bin").write_bytes(heap)
+    suite.ends("a heap from a pipe", ["check", "-"], b"ok 0 0 0 0 0\n", b"", 0, stdin=heap)
+    with open("heap.bin", "rb") as file:
+        suite.ends("a heap from a file", ["check", "-"], b"ok 0 0 0 0 0\n", b"", 0, stdin=file)
+    suite.ends("no bytes", ["check", "-"], b"bad BadDescriptor\n", b"", 1, stdin=b"")
+    suite.ends("a heap as a slot", ["check", "--slot", "-"], b"bad BadLength\n", b"", 1, stdin=heap)
+    for change, length, said, status in SLOTS:
+        image = bytearray(8192)
+        for place, word in [*SLOT_WORDS.items(), change]:
+            struct.pack_into("<I", image, place, word)
+        words = ["check", "--slot", "-"]
+        suite.ends(f"the input as a slot with {change}", words, said, b"", status, stdin=bytes(image[:length]))
+
+
+def test_a_file_may_have_the_name_of_the_input(suite):
+    """A file named `-` is checked by another path to it."""
+    pathlib.Path("-").write_bytes(b"Heap" + struct.pack("<3I", 0, 16, 16))
+    suite.ends("the file -", ["check", "./-"], b"ok 0 0 0 0 0\n", b"", 0, stdin=b"no heap")
+
+
+def test_an_input_that_cannot_be_checked_is_told(suite):
+    """An input that fails, and one of a byte too many, are told; one of the most bytes is looked at."""
+    folder = os.open(".", os.O_RDONLY)
+    suite.ends("an input that fails", ["check", "-"], b"", b"rh_desk: read failed\n", 3, stdin=folder)
+    os.close(folder)
+    most = bytes(LONGEST_FILE)
+    suite.ends("the most bytes", ["check", "-"], b"bad BadDescriptor\n", b"", 1, stdin=most)
+    told = b"rh_desk: file -\n  more than 1048576 bytes\n"
+    suite.ends("a byte more", ["check", "-"], b"", told, 3, stdin=most + b"\0")

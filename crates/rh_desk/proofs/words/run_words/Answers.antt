@@ -1,4 +1,4 @@
-use Rattle.std.proofs.Common.{map, refl, string_bytes, subst}
+use Rattle.std.proofs.Common.{map, string_bytes, subst}
 use Rattle.clap.specs.Words.{subcommand_rows_of}
 use Rattle.rh_desk.specs.Requests.{AsksFor}
 use Rattle.rh_desk.specs.declared.request.Request.TheVariants.{Check}
@@ -10,4 +10,4 @@ returns-in-Some-Check-clause-ends g c =
     words-ask g.R.File.Read.remaining (map string_bytes c.args.words.now) (subcommand_rows_of c.in-Ok.matches)
     (Check c.in-Some-Check.kind c.in-Some-Check.file) _ _ c.in-Ok.ensures.found c.in-Ok.ensures.fails
     (subst (AsksFor (subcommand_rows_of c.in-Ok.matches)) c.in-Some-Check.field-0-is c.in-Some-Check.ensures.asked)
-    (refl, c.check_file.ensures.ends (g.I.Source.input c.args.input.now))
+    (c.check_file.ensures.of_input, c.check_file.ensures.of_file)

@@ -28,7 +28,7 @@ returns-in_default g c = record {
       one-line (step d c.args.command.now).0 c.args.command.now (step d c.args.command.now).1 c.in_default.not-Ask,
       ← c.apply-reply.ensures.reply d h,
     )
-    refl;
+        refl;
     bad = sym (or_false c.args.self.now.has_bad_line);
   };
   offered = c.put_first_line.ensures;

@@ -1,0 +1,11 @@
+use Rattle.std.proofs.Common.{rules, ◌≡◌, true, inl, inr, refl}
+use Rattle.rh_session.specs.declared.status.RunFault.TheVariants.{NoMemory, ReadFailed}
+use Rattle.rh_desk.proofs.input.read_input.Goals as goal
+
+pub returns-in-Err-clause-told : goal.returns-in-Err-clause-told
+returns-in-Err-clause-told g c =
+    let failed : (g.I.Source.input c.read.new.self).failed ≡ true = search rules in
+    rw (← c.loop-piece.invariant.quiet) (inl (failed, c.ended.ensures.told ReadFailed refl))
+
+pub returns-then-is_err-clause-told : goal.returns-then-is_err-clause-told
+returns-then-is_err-clause-told g c = rw (← c.loop-piece.invariant.quiet) (inr (inr (c.ended-then-is_err.ensures.told NoMemory refl)))

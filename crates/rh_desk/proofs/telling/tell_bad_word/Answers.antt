@@ -1,0 +1,15 @@
+use Rattle.std.proofs.Common.{◌∙◌, sym, rules}
+use Rattle.rh_lines.proofs.PenLemmas.{done_as, wrote}
+use Rattle.rh_desk.specs.Telling.{bad_word_text}
+use Rattle.rh_desk.proofs.TellLemmas.{puts_tells}
+use Rattle.rh_desk.proofs.telling.tell_bad_word.Goals as goal
+
+pub returns-clause-told : goal.returns-clause-told
+returns-clause-told g c =
+    let text = bad_word_text c.args.word.now in
+    let made = c.new-pen.ensures in
+    let offered = c.finish-told.ensures.same ∙ c.put_bad_word.ensures in
+    let w = wrote c.new-pen.result c.finish-told.new.self text offered in
+    let same = sym (w.same_reference ∙ made.same_reference) in
+    let p = done_as c.new-pen.result c.finish-told.new.self _ _ text c.finish-told.result offered made.begun made.text c.finish-told.ensures.written in
+    puts_tells c.finish-told.result (search rules)
