@@ -158,6 +158,9 @@ static VF_INLINE const char *vf_status_text(uint32_t status)
     }
 }
 
+/* The version of the library that the program is linked with, a number as VF_VERSION_NUMBER is. It answers no status. */
+uint32_t vf_version(void);
+
 /* ---- Duties of the caller -----------------------------------------------------------------------------------------
  *
  * What no call can see, and each relies on:
@@ -182,7 +185,8 @@ static VF_INLINE const char *vf_status_text(uint32_t status)
  *    changes the heap. Where it is none they may read and write anywhere.
  * 6. Of the calls on desks: the struct is zeros, or as the last call left it. It may be moved, but a copy of an open
  *    one is not used beside it, nor after it was closed. An open desk is closed at last, or its memory is never given
- *    back. A desk is used by the thread that opened it.
+ *    back. Any thread may use a desk, but one call on it runs at a time: where threads share one, each call stands
+ *    under a lock of yours.
  * 7. What the library asks for memory, malloc(), realloc() and free() or your own, are one allocator, which aligns to
  *    16. Of all calls vf_desk_file and vf_desk_open alone ask for some, and vf_desk_close gives it back; these three
  *    are not called from a signal handler, nor from the forked child of a process with threads.
