@@ -294,6 +294,7 @@ int main(void)
     senders_take_none();
     receivers_take_none();
     messages_take_none();
+    EXPECT(vf_version() == VF_VERSION_NUMBER);
     EXPECT(taken == 0);
     taken = 0;
     what_is_taken_is_counted();

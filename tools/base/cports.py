@@ -219,7 +219,7 @@ def try_cmake(port):
 
 def kinds_of(prototype):
     """What python's table has to say of a call."""
-    words = header.PROTOTYPE.match(prototype)[3].split(",")
+    words = [it for it in header.PROTOTYPE.match(prototype)[3].split(",") if it != "void"]
     return "".join("p" if "*" in it else KINDS[it.split()[0]] for it in words)
 
 
