@@ -52,6 +52,8 @@ pub mod DonePolls
 pub mod DonePairs
 pub mod RestLaws
 pub mod RestRows
+pub mod LiveLaws
+pub mod LiveRows
 pub mod DoneLaws
 pub mod DoneRows
 pub mod ProgressLaws

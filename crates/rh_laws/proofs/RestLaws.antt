@@ -633,7 +633,7 @@ start-goes_on pool handle ref files = record {
 
 -- ---- at rest
 
-rest-held : (h : ℕ) (seats : List Seat) → AllByRecursion (λ (s : Seat). s.holds ≡ None) seats → held_by h seats ≡ None
+pub rest-held : (h : ℕ) (seats : List Seat) → AllByRecursion (λ (s : Seat). s.holds ≡ None) seats → held_by h seats ≡ None
 rest-held h [] all = refl
 rest-held h (s ∷ seats) all = elim (eqb_tells s.handle h) [ inl z ↦ rw z.0 all.0 | inr z ↦ rw z.0 (rest-held h seats all.1) ]
 
@@ -644,6 +644,17 @@ none-waits d rest h w (inl u) = by u.live
     by : IsLive (view d).queue (view d).held (ref_of w) → ⊥
     by (IsLive.waits m has e) = subst (Has m) (ap (map seen_parcel) rest.queue) has
     by (IsLive.rests k m is e) = none_some ((view d).held k) (ap (option_map seen_parcel) (rest-held k d.post.seats rest.held)) is
+
+-- an open record of a task that answers no fetch, whose DataSave is its last message
+pub offered_only : {o : Offers} {e : Edits} (d : Desk) → Good o e (view d) → (h : ℕ) (t : Task) → task_of h d.tasks ≡ Some t → (x : Sending) →
+    Has (Open x) ((view d).sending h) → ((view d).file h && x.last == x.id) ≡ true → IsOffered t x
+offered_only d good h t at x has e =
+    let last : x.last ≡ x.id = is_equal _ _ (and_right ((view d).file h) _ e) in
+    record {
+      manner = sym (field_is (λ y. answers_none y.manner) false h d.tasks t at) ∙ and_left ((view d).file h) _ e;
+      last = last;
+      count = (good.inv.outs.source h x has).unread last;
+    }
 
 settled : {o : Offers} {e : Edits} (d : Desk) → Good o e (view d) → AllWait (view d) → IsAtRest d.post → IsSettled d
 settled d good all rest = record {
@@ -665,13 +676,7 @@ settled d good all rest = record {
     goes h t at x has = by ((view d).file h && x.last == x.id) refl
       where
         by : (c : Bool) → ((view d).file h && x.last == x.id) ≡ c → IsOffered t x
-        by true e =
-            let last : x.last ≡ x.id = is_equal _ _ (and_right ((view d).file h) _ e) in
-            record {
-              manner = sym (field_is (λ y. answers_none y.manner) false h d.tasks t at) ∙ and_left ((view d).file h) _ e;
-              last = last;
-              count = (good.inv.outs.source h x has).unread last;
-            }
+        by true e = offered_only d good h t at x has e
         by false e = absurd (none-waits d rest h (reply x.last x.recipient) (all.waits h _ (HasWant.goes (record {
           one = Open x;
           has = has;

@@ -11,5 +11,6 @@ pub mod Progress
 pub mod Renaming
 pub mod Claimed
 pub mod Rest
+pub mod LiveEnds
 pub mod SendersDone
 pub mod MayShow
