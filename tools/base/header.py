@@ -9,7 +9,7 @@ import outcome
 
 HEADER = "c/vervainfile.h"
 SOURCES = ["crates/vf_heap/src/*.rt", "crates/vf_flex/src/*.rt", "crates/vf_desk/src/*.rt", "crates/vf_ram/src/*.rt",
-           "crates/rh_flex/src/slot.rt"]
+           "crates/rh_lent_slot/src/slot.rt"]
 SUFFIX = "_unless_null"
 NULL = "VF_NULL"
 TYPES = {"u8": "uint8_t", "u16": "uint16_t", "u32": "uint32_t", "u64": "uint64_t", "i32": "int32_t", "i64": "int64_t",

@@ -1,13 +1,13 @@
 //! The same rows about a heap in bytes that are lent.
 
 ghost use Rattle.std.specs.Prelude.{vec_items, IfSome};
-ghost use Rattle.rh_lent.specs.Heaps.{IsHeapBytes};
+ghost use Rattle.rh_lent_heap.specs.Heaps.{IsHeapBytes};
 
 use crate::answer::{placed, shown, tell};
 use crate::row::Row;
 use rh_defs::sizes::{HEAP_FIRST, HEAP_UNIT, moved};
 use rh_heap::check;
-use rh_lent::heap;
+use rh_lent_heap::heap;
 use std::alloc::Global;
 use std::io;
 

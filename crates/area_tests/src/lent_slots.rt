@@ -1,13 +1,13 @@
 //! Rows about a slot in bytes that are lent.
 
-ghost use Rattle.rh_flex.specs.Slots.{IsSlotBytes};
+ghost use Rattle.rh_lent_slot.specs.Slots.{IsSlotBytes};
 
 use crate::answer::{placed, shown, tell};
 use crate::row::Row;
 use arrayvec::ArrayVec;
 use rh_defs::sizes::ANCHORS;
 use rh_defs::{Anchor, BlockItem, Refusal};
-use rh_flex::LentSlot;
+use rh_lent_slot::LentSlot;
 use rh_slot::LONGEST_SLOT;
 use rh_store::bytes::copy_from;
 use std::alloc::Global;

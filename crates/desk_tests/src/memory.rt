@@ -9,6 +9,7 @@ ghost use Rattle.rh_store.specs.Plain as plain;
 use crate::same::{is_true, same};
 use crate::scarce::Scarce;
 use arrayvec::ArrayVec;
+use callers::start_world;
 use rh_defs::{Files, Handle, Ref};
 use rh_desk::{RunFault, Status, run};
 use rh_lines::Flagged;
@@ -20,7 +21,6 @@ use rh_tasks::World;
 use std::alloc::{AllocError, Global};
 use std::process::Abort;
 use std::test::Fail;
-use uses::start_world;
 
 /// The bytes that each trial has more than the one before.
 pub(crate) const STEP: usize = 64;

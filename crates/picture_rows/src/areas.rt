@@ -3,7 +3,7 @@
 use rh_defs::{Handle, Manner, Name, Ref};
 use rh_lines::Pen;
 use rh_map::{
-    ScrapFile, SlotHeading, print_fixed_area, print_made_area, print_module_heading,
+    ScrapLine, SlotHeading, print_fixed_area, print_made_area, print_module_heading,
     print_pool_heading, print_slot_heading,
 };
 
@@ -13,7 +13,7 @@ pub(crate) fn print_areas<P: Pen>(a: &Name, pen: &mut P) {
     print_made_area(256, 2, &[5, 4], pen);
     print_made_area(257, 1, &[], pen);
     print_fixed_area(3, &[7], None, pen);
-    let scrap = ScrapFile {
+    let scrap = ScrapLine {
         size: 1,
         load: Ref(3),
     };

@@ -2,7 +2,7 @@
 
 use crate::transfers::side;
 use rh_defs::{Action, EventCode, Name, Ref, State};
-use rh_draw::{
+use rh_elements::{
     Ends, followed, place_among, print_beat, print_letterbox_row, print_life, print_message_arrow,
     print_message_words, print_transfer_row,
 };

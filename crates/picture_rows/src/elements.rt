@@ -1,6 +1,6 @@
 //! Elements of a sheet: text, rectangles, words, figures, headings and links.
 
-use rh_draw::{
+use rh_elements::{
     Extent, add_step_link, print_box, print_change, print_described, print_figure_end,
     print_figure_open, print_heading, print_words, put_escaped,
 };

@@ -2,7 +2,7 @@
 
 use rh_figure::{Kind, Piece};
 use rh_lines::Pen;
-use rh_map::{Area, area_mark, cell_mark, print_area, print_pool, put_line, slot_mark};
+use rh_map::{AreaBytes, area_mark, cell_mark, print_area, print_pool, put_line, slot_mark};
 
 /// Rows of a slot, of a long area and of the pool, and then characters.
 pub(crate) fn print_rows<P: Pen>(pen: &mut P) {
@@ -29,7 +29,7 @@ fn piece(kind: Kind, at: usize, size: usize) -> Piece {
 /// A slot with anchor words, an empty C heap and a flex block.
 fn print_slot<P: Pen>(pen: &mut P) {
     let block = Kind::FlexBlock { anchor: 0, size: 5 };
-    let area = Area {
+    let area = AreaBytes {
         start: 0x8000,
         pages: &[62, 61],
         pieces: &[
@@ -45,7 +45,7 @@ fn print_slot<P: Pen>(pen: &mut P) {
 
 /// An area of 18 pages, of which two are left out.
 fn print_long_area<P: Pen>(pen: &mut P) {
-    let area = Area {
+    let area = AreaBytes {
         start: 0x180_0000,
         pages: &[
             0, 1, 2, 3, 4, 5, 6, 7, 8, 9, 10, 11, 12, 13, 14, 15, 16, 1023,

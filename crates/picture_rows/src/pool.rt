@@ -1,6 +1,6 @@
 //! The pool on a sheet: its squares, their tags, what stands beside it, and its grid.
 
-use rh_draw::{print_grid, print_pool_side, print_squares, print_tags};
+use rh_elements::{print_grid, print_pool_side, print_squares, print_tags};
 use rh_lines::Pen;
 
 /// An element of each kind.

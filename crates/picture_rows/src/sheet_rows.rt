@@ -2,7 +2,7 @@
 
 ghost use Rattle.std.specs.Prelude.{◌≡◌};
 
-use rh_draw::{
+use rh_elements::{
     Card, Look, Plot, Slide, Tint, print_high_card, print_lens_above, print_row, print_slide_arrow,
     print_tick,
 };
@@ -62,7 +62,7 @@ fn print_slot<P: Pen>(pen: &mut P) {
         ],
         tint: Tint::Slot(1),
     };
-    rh_draw::print_rows(frame(2, 1), &plot, pen);
+    rh_elements::print_rows(frame(2, 1), &plot, pen);
 }
 
 /// The row that stands for the pages between the ends of a long area.

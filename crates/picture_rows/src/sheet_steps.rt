@@ -1,6 +1,6 @@
 //! Steps of a sheet, remarks, and how a sheet ends and begins.
 
-use rh_draw::{print_foot, print_head, print_remark, print_said, print_step_open, print_still};
+use rh_elements::{print_foot, print_head, print_remark, print_said, print_step_open, print_still};
 use rh_lines::{Pen, WholeText, WriterPen};
 
 /// The bytes of a sheet's head up to its style.

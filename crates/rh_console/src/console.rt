@@ -12,15 +12,15 @@ ghost use Rattle.rh_console.specs.Console.{Prints};
 
 use crate::said::Said;
 use rh_defs::{Command, Files, Handle, Question, Ref};
+use rh_heap_index::IndexedStore;
 use rh_lines::{WholeText, read_line};
-use rh_mapped::Mapped;
 use rh_pages::PagedStore;
 use rh_tasks::World;
 use std::alloc::{AllocError, Global};
 use std::mem;
 
 /// A world over scattered pages, with a map beside each heap.
-pub type PagedWorld = World<Mapped<PagedStore>>;
+pub type PagedWorld = World<IndexedStore<PagedStore>>;
 
 /// A world, and what the last line was answered.
 #[derive(Drop)]
@@ -49,7 +49,7 @@ impl Console {
         ensures err { OnErr result (files.new ≡ files.old) }
     {
         let store = PagedStore::new(alloc, pages as usize)?;
-        let store = Mapped::new(alloc, store)?;
+        let store = IndexedStore::new(alloc, store)?;
         let files = mem::replace(files, Files::new(alloc));
         Ok(Console {
             world: World::with_next(store, files, handle, r),

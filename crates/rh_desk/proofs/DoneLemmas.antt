@@ -20,11 +20,11 @@ use Rattle.clap.specs.declared.error.kind.ErrorKind.TheVariants as kind
 use Rattle.rh_desk.specs.CommandLine.{program_words}
 use Rattle.rh_desk.specs.Done.{CheckOver, FileOver, IsWhole, MapOver, RequestEnds, RunEnds, RunOver, SheetOver, ShownOver, Streams, Untouched}
 use Rattle.rh_desk.specs.Done.{WordsEnd, line_as, status_as}
-use Rattle.rh_desk.specs.Ending.{ending_of}
+use Rattle.rh_desk.specs.ProgramEnd.{ending_of}
 use Rattle.rh_desk.specs.FileWords.{AreGood, word_name}
 use Rattle.rh_desk.specs.Requests.{AsksFor}
-use Rattle.rh_desk.specs.declared.ending.Ending.{Ending}
-use Rattle.rh_desk.specs.declared.ending.Ending.TheVariants.{Clean, BadLines}
+use Rattle.rh_desk.specs.declared.program_end.ProgramEnd.{ProgramEnd}
+use Rattle.rh_desk.specs.declared.program_end.ProgramEnd.TheVariants.{Clean, BadLines}
 use Rattle.rh_desk.specs.declared.request.ImageKind.{ImageKind}
 use Rattle.rh_desk.specs.declared.request.Request.{Request}
 use Rattle.rh_desk.specs.declared.request.Shown.{Shown}
@@ -147,7 +147,7 @@ check-over k image bytes s outcome same takes is broke quiet told =
 
 -- what stops a run before its script
 pub files-fail : {F : Type 0} (remaining : F → Option (List ℕ)) (shown : Shown) (pages : ℕ) (script : List ℕ) (words : List (List ℕ)) (s : Streams)
-    (ending : Ending)
+    (ending : ProgramEnd)
     → AreGood words → Untouched s → TellsBadFile s.quiet s.told words ending → RunEnds remaining shown pages script words s ending
 files-fail remaining shown pages script words s ending good still (inl bad) = inr (still, inl bad)
 files-fail remaining shown pages script words s ending good still (inr lost) = inr (still, inr (good, lost))
@@ -158,7 +158,7 @@ names-of (w ∷ ws) = ap (λ ns. word_name w.now ∷ ns) (names-of ws)
 
 -- a script over the files of good words
 pub script-over : {F : Type 0} (remaining : F → Option (List ℕ)) (shown : Shown) (pages : ℕ) (script : List ℕ) (ws : List (Bor (List ℕ)))
-    (files : FileList) (s : Streams) (ending : Ending)
+    (files : FileList) (s : Streams) (ending : ProgramEnd)
     → AreGood (map (λ w. w.now) ws) → map (λ file. file.0) files ≡ map (λ w. word_name w.now) ws → All (λ file. IsWhole remaining file.1) files
     → (script ≡ codes "-" → ShownOver shown script (start pages files) s ending)
     → (script ≢ codes "-" → FileOver remaining shown (start pages files) script s ending)
@@ -171,7 +171,7 @@ noted remaining inner failed reads rest told s =
     record s { before = record { left = remaining inner; failed = failed; reads = reads }; after = rest; told = told }
 
 -- a file of which nothing is noted yet
-pub file-over : {F : Type 0} (remaining : F → Option (List ℕ)) (shown : Shown) (d : Desk) (path : List ℕ) (s : Streams) (ending : Ending) (file inner : F)
+pub file-over : {F : Type 0} (remaining : F → Option (List ℕ)) (shown : Shown) (d : Desk) (path : List ℕ) (s : Streams) (ending : ProgramEnd) (file inner : F)
     (failed : Bool) (reads : ℕ) (rest : Input) (told : Output)
     → inner ≡ file → failed ≡ false → reads ≡ 0 → s.after ≡ s.before → TellsFolder told s.told ending
     → ShownOver shown path d (noted remaining inner failed reads rest told s) ending
@@ -183,7 +183,7 @@ file-over remaining shown d path s ending file inner failed reads rest told of w
 
 -- the words are `clap`'s, and ask for this
 pub words-ask : {F : Type 0} (remaining : F → Option (List ℕ)) (words : List (List ℕ)) (found : Option (Text × List Row)) (request : Request) (s : Streams)
-    (ending : Ending)
+    (ending : ProgramEnd)
     → found ≡ subcommand_of program_words words → fault_of program_words words ≡ [] → AsksFor found request → RequestEnds remaining request s ending
     → WordsEnd remaining words s ending
 words-ask remaining words found request s ending is none asks ends = inl (none, (request, subst (λ f. AsksFor f request) is asks, ends))

@@ -17,8 +17,8 @@ use Rattle.rh_desk.specs.Inner.WordOfFile.{file_word}
 use Rattle.rh_desk.specs.Telling.{Tells, TellsBadFile, TellsLoss, run_fault_text}
 use Rattle.rh_lines.specs.Flow.{Output}
 use Rattle.rh_session.specs.declared.status.RunFault.TheVariants.{NoMemory}
-use Rattle.rh_desk.specs.declared.ending.Ending.{Ending}
-use Rattle.rh_desk.specs.declared.ending.Ending.TheVariants.{Fault}
+use Rattle.rh_desk.specs.declared.program_end.ProgramEnd.{ProgramEnd}
+use Rattle.rh_desk.specs.declared.program_end.ProgramEnd.TheVariants.{Fault}
 
 abbrev texts : List (Bor (List ℕ)) → List (List ℕ)
 texts ws = map (λ w. w.now) ws
@@ -128,7 +128,7 @@ word-in ws i d inside =
     subst (Contains (texts ws)) at.1 (Contains-get_or (texts ws) i d.now at.0)
 
 -- the file of a word can't be had, or memory was refused
-pub lost-file : (old new : Output) (ws : List (Bor (List ℕ))) (i : ℕ) (d : Bor (List ℕ)) (name path : List ℕ) (ending : Ending) → i < length ws
+pub lost-file : (old new : Output) (ws : List (Bor (List ℕ))) (i : ℕ) (d : Bor (List ℕ)) (name path : List ℕ) (ending : ProgramEnd) → i < length ws
     → Some (name, path) ≡ file_word (get_or ws i d).now → ending ≡ Fault → TellsLoss old new path ⊎ Tells old new (run_fault_text NoMemory)
     → TellsBadFile old new (texts ws) ending
 lost-file old new ws i d name path ending inside found fault (inl told) =

@@ -26,8 +26,8 @@ use Rattle.rh_desk.specs.Inputs.{IsAllOf, TellsLostInput}
 use Rattle.rh_desk.specs.Requests.{AsksFor, AsksNothing}
 use Rattle.rh_desk.specs.SheetNames.{last_part}
 use Rattle.rh_desk.specs.Telling.{Tells, TellsBadWord, TellsFolder, TellsLoss, TellsLostFile, run_fault_text}
-use Rattle.rh_desk.specs.declared.ending.Ending.{Ending}
-use Rattle.rh_desk.specs.declared.ending.Ending.TheVariants.{Clean, BadLines, WrongWords, Fault}
+use Rattle.rh_desk.specs.declared.program_end.ProgramEnd.{ProgramEnd}
+use Rattle.rh_desk.specs.declared.program_end.ProgramEnd.TheVariants.{Clean, BadLines, WrongWords, Fault}
 use Rattle.rh_desk.specs.declared.request.ImageKind.{ImageKind}
 use Rattle.rh_desk.specs.declared.request.ImageKind.TheVariants.{Heap, Slot}
 use Rattle.rh_desk.specs.declared.request.Request.{Request}
@@ -65,7 +65,7 @@ Stopped d s TooLong =
 Stopped d s WriteFailed = BrokeOff d s.before s.old s.new
 
 -- how a run over a desk ends: all read and written and nothing told, or stopped by the fault that is told
-abbrev pub RunOver : Desk → Streams → Ending → Type 0
+abbrev pub RunOver : Desk → Streams → ProgramEnd → Type 0
 RunOver d s Clean = Finished d s.before s.after s.old s.new status.Clean × (s.told ≡ s.quiet)
 RunOver d s BadLines = Finished d s.before s.after s.old s.new status.BadLines × (s.told ≡ s.quiet)
 RunOver d s WrongWords = ⊥
@@ -82,7 +82,7 @@ MapStopped marked d s TooLong =
 MapStopped marked d s WriteFailed = MappedUntil marked (place d 0 false) s.before s.after s.old s.new
 
 -- how a map of a script over a desk ends, as a run does
-abbrev pub MapOver : Bool → Desk → Streams → Ending → Type 0
+abbrev pub MapOver : Bool → Desk → Streams → ProgramEnd → Type 0
 MapOver marked d s Clean =
     Mapped marked (place d 0 false) s.before s.after s.old s.new status.Clean × (s.told ≡ s.quiet)
 MapOver marked d s BadLines =
@@ -101,7 +101,7 @@ SheetStopped marked name d s TooLong =
 SheetStopped marked name d s WriteFailed = PaintedUntil marked name d s.before s.after s.old s.new
 
 -- how a sheet of a script over a desk ends, as a run does
-abbrev pub SheetOver : Bool → List ℕ → Desk → Streams → Ending → Type 0
+abbrev pub SheetOver : Bool → List ℕ → Desk → Streams → ProgramEnd → Type 0
 SheetOver marked name d s Clean =
     Painted marked name d s.before s.after s.old s.new status.Clean × (s.told ≡ s.quiet)
 SheetOver marked name d s BadLines =
@@ -115,7 +115,7 @@ abbrev pub sheet_name : List ℕ → List ℕ
 sheet_name script = if bytes_eq script (codes "-") then codes "standard input" else last_part script
 
 -- the same by what is written of the script
-abbrev pub ShownOver : Shown → List ℕ → Desk → Streams → Ending → Type 0
+abbrev pub ShownOver : Shown → List ℕ → Desk → Streams → ProgramEnd → Type 0
 ShownOver Replies script d s ending = RunOver d s ending
 ShownOver (Map marked) script d s ending = MapOver marked d s ending
 ShownOver (Sheet marked) script d s ending = SheetOver marked (sheet_name script) d s ending
@@ -126,7 +126,7 @@ instead left rest s = record s { before = record { left = left; failed = false; 
 
 -- how the script of a file ends: its run, where the input stays, with a line more where a folder can't be read; or the
 -- lost file, or want of memory, is told
-abbrev pub FileOver : {F : Type 0} → (F → Option (List ℕ)) → Shown → Desk → List ℕ → Streams → Ending → Type 0
+abbrev pub FileOver : {F : Type 0} → (F → Option (List ℕ)) → Shown → Desk → List ℕ → Streams → ProgramEnd → Type 0
 FileOver {F} remaining shown d path s ending =
     ((s.after ≡ s.before) × ((file : F) × (rest : Input) × (told : Output)
     × ShownOver shown path d (record (instead (remaining file) rest s) { told = told }) ending
@@ -135,7 +135,7 @@ FileOver {F} remaining shown d path s ending =
     × (TellsLoss s.quiet s.told path ⊎ Tells s.quiet s.told (run_fault_text NoMemory)))
 
 -- how a script over good words and their files ends: `-` is the input, and all else a file's path
-pub record ScriptOver {F : Type 0} (remaining : F → Option (List ℕ)) (shown : Shown) (pages : ℕ) (script : List ℕ) (words : List (List ℕ)) (s : Streams) (ending : Ending) : Type 0 where
+pub record ScriptOver {F : Type 0} (remaining : F → Option (List ℕ)) (shown : Shown) (pages : ℕ) (script : List ℕ) (words : List (List ℕ)) (s : Streams) (ending : ProgramEnd) : Type 0 where
   pub files : FileList
   pub good : AreGood words
   pub named : map (λ file. file.0) files ≡ map word_name words
@@ -145,7 +145,7 @@ pub record ScriptOver {F : Type 0} (remaining : F → Option (List ℕ)) (shown 
 
 -- how `run`, `map` and `draw` end: with their script, or before, where the first bad word is told, or want of memory, or of good words a
 -- lost file
-abbrev pub RunEnds : {F : Type 0} → (F → Option (List ℕ)) → Shown → ℕ → List ℕ → List (List ℕ) → Streams → Ending → Type 0
+abbrev pub RunEnds : {F : Type 0} → (F → Option (List ℕ)) → Shown → ℕ → List ℕ → List (List ℕ) → Streams → ProgramEnd → Type 0
 RunEnds remaining shown pages script words s ending =
     ScriptOver remaining shown pages script words s ending
     ⊎ (Untouched s
@@ -162,7 +162,7 @@ status_as Heap bytes = image_status bytes
 status_as Slot bytes = slot_image_status bytes
 
 -- how a check of some bytes ends: their line is written, and the status is theirs
-abbrev pub CheckOver : ImageKind → List ℕ → Streams → Ending → Type 0
+abbrev pub CheckOver : ImageKind → List ℕ → Streams → ProgramEnd → Type 0
 CheckOver k bytes s Clean =
     (status_as k bytes ≡ status.Clean) × Takes s.old s.new (line_as k bytes) × (s.told ≡ s.quiet)
 CheckOver k bytes s BadLines =
@@ -172,20 +172,20 @@ CheckOver k bytes s Fault =
     Breaks s.old s.new (line_as k bytes) × Tells s.quiet s.told (run_fault_text WriteFailed)
 
 -- how `check` ends: with the line of all bytes of a file, or nothing is written and the lost file, or want of memory, told
-abbrev pub CheckEnds : {F : Type 0} → (F → Option (List ℕ)) → ImageKind → List ℕ → Streams → Ending → Type 0
+abbrev pub CheckEnds : {F : Type 0} → (F → Option (List ℕ)) → ImageKind → List ℕ → Streams → ProgramEnd → Type 0
 CheckEnds remaining k path s ending =
     ((bytes : List ℕ) × IsWhole remaining bytes × CheckOver k bytes s ending)
     ⊎ ((s.new ≡ s.old) × (ending ≡ Fault)
     × (TellsLoss s.quiet s.told path ⊎ Tells s.quiet s.told (run_fault_text NoMemory)))
 
 -- how `check -` ends: with the line of all bytes of the input, or nothing is written and the lost input told
-abbrev pub InputCheckEnds : ImageKind → Streams → Ending → Type 0
+abbrev pub InputCheckEnds : ImageKind → Streams → ProgramEnd → Type 0
 InputCheckEnds k s ending =
     ((bytes : List ℕ) × IsAllOf s.before s.after bytes × CheckOver k bytes s ending)
     ⊎ ((s.new ≡ s.old) × (ending ≡ Fault) × TellsLostInput s.after s.quiet s.told)
 
 -- how what is asked for ends
-abbrev pub RequestEnds : {F : Type 0} → (F → Option (List ℕ)) → Request → Streams → Ending → Type 0
+abbrev pub RequestEnds : {F : Type 0} → (F → Option (List ℕ)) → Request → Streams → ProgramEnd → Type 0
 RequestEnds remaining (Run request) s ending =
     RunEnds remaining request.shown request.pages request.script.now (map (λ word. word.now) request.files.now) s ending
 RequestEnds remaining (Check k file) s ending =
@@ -193,7 +193,7 @@ RequestEnds remaining (Check k file) s ending =
     × (file.now ≢ codes "-" → (s.after ≡ s.before) × CheckEnds remaining k file.now s ending)
 
 -- how an error of some kind in the words ends: help and the version are written, all else is told
-abbrev pub ErrorEnds : ErrorKind → Streams → Ending → Type 0
+abbrev pub ErrorEnds : ErrorKind → Streams → ProgramEnd → Type 0
 ErrorEnds k s Clean =
     ((k ≡ kind.DisplayHelp) ⊎ (k ≡ kind.DisplayVersion)) × (s.new.failed ≡ s.old.failed) × (s.told ≡ s.quiet)
 ErrorEnds k s BadLines = ⊥
@@ -206,7 +206,7 @@ ErrorEnds k s Fault =
 
 -- how words end: as what they ask for where `clap` finds no fault in them, or as an error of a kind that it has for
 -- them; or it finds no fault, and yet they ask for nothing, and nothing is done
-abbrev pub WordsEnd : {F : Type 0} → (F → Option (List ℕ)) → List (List ℕ) → Streams → Ending → Type 0
+abbrev pub WordsEnd : {F : Type 0} → (F → Option (List ℕ)) → List (List ℕ) → Streams → ProgramEnd → Type 0
 WordsEnd remaining words s ending =
     ((fault_of program_words words ≡ [])
     × ((request : Request) × AsksFor (subcommand_of program_words words) request × RequestEnds remaining request s ending))

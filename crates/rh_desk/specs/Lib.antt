@@ -1,6 +1,6 @@
 pub mod CommandLine
 pub mod Done
-pub mod Ending
+pub mod ProgramEnd
 pub mod FileWords
 pub mod Inner
 pub mod Inputs

@@ -7,8 +7,8 @@ use Rattle.rh_session.specs.declared.status.RunFault.{RunFault}
 use Rattle.rh_session.specs.declared.status.RunFault.TheVariants.{NoMemory, ReadFailed, WriteFailed, TooLong}
 use Rattle.rh_desk.specs.FileWords.{IsFirstBad, word_path}
 use Rattle.rh_desk.specs.Reasons.{loss_text, word_fault, word_fault_text}
-use Rattle.rh_desk.specs.declared.ending.Ending.{Ending}
-use Rattle.rh_desk.specs.declared.ending.Ending.TheVariants.{WrongWords, Fault}
+use Rattle.rh_desk.specs.declared.program_end.ProgramEnd.{ProgramEnd}
+use Rattle.rh_desk.specs.declared.program_end.ProgramEnd.TheVariants.{WrongWords, Fault}
 use Rattle.rh_desk.specs.declared.reasons.FileLoss.{FileLoss}
 use Rattle.rh_desk.specs.declared.reasons.FileLoss.TheVariants.{Folder}
 
@@ -49,20 +49,20 @@ abbrev pub TellsLoss : Output → Output → List ℕ → Type 0
 TellsLoss old new path = (loss : FileLoss) × Tells old new (lost_file_text path loss)
 
 -- the first bad word was told, or that memory was refused
-abbrev pub TellsBadWord : Output → Output → List (List ℕ) → Ending → Type 0
+abbrev pub TellsBadWord : Output → Output → List (List ℕ) → ProgramEnd → Type 0
 TellsBadWord old new words ending =
     ((ending ≡ Fault) × Tells old new (run_fault_text NoMemory))
     ⊎ ((word : List ℕ) × (ending ≡ WrongWords) × IsFirstBad words word × Tells old new (bad_word_text word))
 
 -- the path of one of the words was told, since its file can't be had
-abbrev pub TellsLostFile : Output → Output → List (List ℕ) → Ending → Type 0
+abbrev pub TellsLostFile : Output → Output → List (List ℕ) → ProgramEnd → Type 0
 TellsLostFile old new words ending =
     (word : List ℕ) × (ending ≡ Fault) × Contains words word × TellsLoss old new (word_path word)
 
 -- the first bad word was told, or a lost file
-abbrev pub TellsBadFile : Output → Output → List (List ℕ) → Ending → Type 0
+abbrev pub TellsBadFile : Output → Output → List (List ℕ) → ProgramEnd → Type 0
 TellsBadFile old new words ending = TellsBadWord old new words ending ⊎ TellsLostFile old new words ending
 
 -- nothing more was told, or that a script which can't be read is a folder
-abbrev pub TellsFolder : Output → Output → Ending → Type 0
+abbrev pub TellsFolder : Output → Output → ProgramEnd → Type 0
 TellsFolder old new ending = (new ≡ old) ⊎ ((ending ≡ Fault) × Tells old new (loss_text Folder))

@@ -5,12 +5,12 @@ ghost use Rattle.std.specs.Prelude.{vec_items};
 ghost use Rattle.std.specs.Option.{option_map};
 ghost use Rattle.rh_defs.specs.declared.sizes.TheConstants.{LONGEST_FILE};
 ghost use Rattle.rh_desk.specs.Done.{IsWhole};
-ghost use Rattle.rh_desk.specs.Ending.{exit_status};
+ghost use Rattle.rh_desk.specs.ProgramEnd.{exit_status};
 ghost use Rattle.rh_desk.specs.FileWords.{AreGood, IsFirstBad, word_name};
 ghost use Rattle.rh_desk.specs.Inner.WordOfFile.{file_word};
 ghost use Rattle.rh_desk.specs.Telling.{Tells, TellsBadFile, TellsBadWord, TellsLoss, run_fault_text};
 
-use crate::ending::Ending;
+use crate::program_end::ProgramEnd;
 use crate::reasons::FileLoss;
 use crate::telling::{ended, tell_bad_word, tell_file};
 use rh_defs::sizes::LONGEST_FILE;
@@ -24,7 +24,7 @@ use std::rt;
 
 /// Looks over all the NAME=PATH words before any file is read. The first bad one is told: one that isn't a name, `=`
 /// and a path of at least one byte, or whose name was given before.
-pub fn check_words<E: Sink>(alloc: Global, words: &[&str], errors: &mut E) -> Result<(), Ending>
+pub fn check_words<E: Sink>(alloc: Global, words: &[&str], errors: &mut E) -> Result<(), ProgramEnd>
     ensures status { IfErr result (λ ending. 2 ≤ exit_status ending) }
     ensures good { IfOk result (λ _. AreGood (map (λ word. word.now) words.now)) }
     ensures quiet { IfOk result (λ _. E.output errors.new ≡ E.output errors.old) }
@@ -52,11 +52,11 @@ pub fn read_files<R: rt::Files, E: Sink>(
     alloc: Global,
     words: &[&str],
     errors: &mut E,
-) -> Result<Files, Ending>
+) -> Result<Files, ProgramEnd>
     ensures status { IfErr result (λ ending. 2 ≤ exit_status ending) }
     ensures named { IfOk result (λ files. map (λ file. file.0) files ≡ map (λ word. word_name word.now) words.now) }
     ensures whole { IfOk result (λ files. All (λ file. IsWhole R.File.remaining file.1) files) }
-    ensures wrong { IfErr result (λ ending. ending ≡ Ending.WrongWords → (word : List ℕ) × IsFirstBad
+    ensures wrong { IfErr result (λ ending. ending ≡ ProgramEnd.WrongWords → (word : List ℕ) × IsFirstBad
         (map (λ word. word.now) words.now) word) }
     ensures quiet { IfOk result (λ _. E.output errors.new ≡ E.output errors.old) }
     ensures told { IfErr result (TellsBadFile (E.output errors.old) (E.output errors.new)
@@ -96,10 +96,10 @@ pub fn read_whole<R: rt::Files, E: Sink>(
     alloc: Global,
     path: &str,
     errors: &mut E,
-) -> Result<Vec<u8>, Ending>
+) -> Result<Vec<u8>, ProgramEnd>
     ensures ok { IfOk result (λ bytes. vec_len bytes ≤ LONGEST_FILE) }
     ensures whole { IfOk result (λ bytes. IsWhole R.File.remaining (vec_items bytes)) }
-    ensures err { IfErr result (λ ending. ending ≡ Ending.Fault) }
+    ensures err { IfErr result (λ ending. ending ≡ ProgramEnd.Fault) }
     ensures told { IfErr result (λ ending. TellsLoss (E.output errors.old) (E.output errors.new) path.now
         ⊎ Tells (E.output errors.old) (E.output errors.new) (run_fault_text RunFault.NoMemory)) }
     ensures quiet { IfOk result (λ _. E.output errors.new ≡ E.output errors.old) }

@@ -3,7 +3,7 @@
 ghost use Rattle.std.specs.Prelude.{◌≡◌, IfErr, IfOk, vec_items};
 ghost use Rattle.rh_desk.specs.Inputs.{IsAllOf, TellsLostInput};
 
-use crate::ending::Ending;
+use crate::program_end::ProgramEnd;
 use crate::reasons::FileLoss;
 use crate::telling::{ended, tell_file};
 use rh_defs::sizes::{LONGEST_FILE, PAGE};
@@ -19,10 +19,10 @@ pub fn read_input<I: Source, E: Sink>(
     alloc: Global,
     input: &mut I,
     errors: &mut E,
-) -> Result<Vec<u8>, Ending>
+) -> Result<Vec<u8>, ProgramEnd>
     ensures whole { IfOk result (λ bytes. IsAllOf (I.input input.old) (I.input input.new) (vec_items bytes)) }
     ensures quiet { IfOk result (λ _. E.output errors.new ≡ E.output errors.old) }
-    ensures err { IfErr result (λ ending. ending ≡ Ending.Fault) }
+    ensures err { IfErr result (λ ending. ending ≡ ProgramEnd.Fault) }
     ensures told { IfErr result (λ _. TellsLostInput (I.input input.new) (E.output errors.old) (E.output errors.new)) }
 {
     let mut bytes = Vec::new(alloc);

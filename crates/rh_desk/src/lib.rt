@@ -2,9 +2,9 @@
 #![tactic(auto)]
 
 mod command_line;
-mod ending;
 mod files;
 mod input;
+mod program_end;
 mod reasons;
 mod request;
 mod shown_words;

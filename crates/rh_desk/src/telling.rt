@@ -2,11 +2,11 @@
 
 ghost use Rattle.std.specs.Prelude.{◌≡◌, ◌≢◌, ◌⊎◌, ◌≤◌, ◌++◌, codes, true};
 ghost use Rattle.clap.specs.Values.{kind_of};
-ghost use Rattle.rh_desk.specs.Ending.{ending_of, exit_status};
+ghost use Rattle.rh_desk.specs.ProgramEnd.{ending_of, exit_status};
 ghost use Rattle.rh_desk.specs.Reasons.{loss_text};
 ghost use Rattle.rh_desk.specs.Telling.{Tells, TellsFolder, bad_word_text, lost_file_text, run_fault_text, shown_path};
 
-use crate::ending::Ending;
+use crate::program_end::ProgramEnd;
 use crate::reasons::{FileLoss, WordFault};
 use crate::shown_words::put_shown;
 use clap::Error;
@@ -20,18 +20,18 @@ const HELD: usize = 600;
 
 /// How a run's outcome ends the program; a fault is told.
 #[tactic(auto, using(crate::proofs::TellLemmas::puts_tells))]
-pub fn ended<E: Sink>(outcome: Result<Status, RunFault>, errors: &mut E) -> Ending
+pub fn ended<E: Sink>(outcome: Result<Status, RunFault>, errors: &mut E) -> ProgramEnd
     ensures ending { result ≡ ending_of outcome }
     ensures quiet { (status : Status) → outcome ≡ Ok status → E.output errors.new ≡ E.output errors.old }
     ensures told { (fault : RunFault) → outcome ≡ Err fault
         → Tells (E.output errors.old) (E.output errors.new) (run_fault_text fault) }
 {
     match outcome {
-        Ok(Status::Clean) => Ending::Clean,
-        Ok(Status::BadLines) => Ending::BadLines,
+        Ok(Status::Clean) => ProgramEnd::Clean,
+        Ok(Status::BadLines) => ProgramEnd::BadLines,
         Err(fault) => {
             let _told = put(errors, run_fault_text(fault));
-            Ending::Fault
+            ProgramEnd::Fault
         }
     }
 }
@@ -49,22 +49,22 @@ fn run_fault_text(fault: RunFault) -> &'static [u8]
 }
 
 /// Prints what `clap` says of the words: help and version to the output, anything else to the errors.
-pub fn told<O: Sink, E: Sink>(
+pub fn tell_words_error<O: Sink, E: Sink>(
     alloc: Global,
     error: &Error,
     output: &mut O,
     errors: &mut E,
-) -> Ending
-    ensures not_run { result ≡ Ending.BadLines → ⊥ }
-    ensures memory { kind_of error.now ≡ ErrorKind.OutOfMemory → result ≡ Ending.Fault }
-    ensures shown { result ≡ Ending.Clean → (kind_of error.now ≡ ErrorKind.DisplayHelp)
+) -> ProgramEnd
+    ensures not_run { result ≡ ProgramEnd.BadLines → ⊥ }
+    ensures memory { kind_of error.now ≡ ErrorKind.OutOfMemory → result ≡ ProgramEnd.Fault }
+    ensures shown { result ≡ ProgramEnd.Clean → (kind_of error.now ≡ ErrorKind.DisplayHelp)
         ⊎ (kind_of error.now ≡ ErrorKind.DisplayVersion) }
-    ensures mistake { result ≡ Ending.WrongWords → (kind_of error.now ≢ ErrorKind.DisplayHelp)
+    ensures mistake { result ≡ ProgramEnd.WrongWords → (kind_of error.now ≢ ErrorKind.DisplayHelp)
         × (kind_of error.now ≢ ErrorKind.DisplayVersion) }
     ensures well { exit_status result ≤ 1 → (O.output output.new).failed ≡ (O.output output.old).failed }
-    ensures wrong { result ≡ Ending.WrongWords → O.output output.new ≡ O.output output.old }
-    ensures quiet { result ≡ Ending.Clean → E.output errors.new ≡ E.output errors.old }
-    ensures fault { result ≡ Ending.Fault →
+    ensures wrong { result ≡ ProgramEnd.WrongWords → O.output output.new ≡ O.output output.old }
+    ensures quiet { result ≡ ProgramEnd.Clean → E.output errors.new ≡ E.output errors.old }
+    ensures fault { result ≡ ProgramEnd.Fault →
         (Tells (E.output errors.old) (E.output errors.new) (run_fault_text RunFault.NoMemory)
         × (O.output output.new ≡ O.output output.old))
         ⊎ (Tells (E.output errors.old) (E.output errors.new) (run_fault_text RunFault.WriteFailed)
@@ -77,24 +77,24 @@ pub fn told<O: Sink, E: Sink>(
     };
     if error.use_stderr() {
         let _told = put(errors, text.as_bytes());
-        return Ending::WrongWords;
+        return ProgramEnd::WrongWords;
     }
     match put(output, text.as_bytes()) {
-        Ok(()) => Ending::Clean,
+        Ok(()) => ProgramEnd::Clean,
         Err(_) => ended(Err(RunFault::WriteFailed), errors),
     }
 }
 
 /// Tells of a file that can't be opened, or can't be read whole, and why.
-pub fn tell_file<E: Sink>(path: &str, loss: FileLoss, errors: &mut E) -> Ending
-    ensures ending { result ≡ Ending.Fault }
+pub fn tell_file<E: Sink>(path: &str, loss: FileLoss, errors: &mut E) -> ProgramEnd
+    ensures ending { result ≡ ProgramEnd.Fault }
     ensures told { Tells (E.output errors.old) (E.output errors.new) (lost_file_text path.now loss) }
 {
     let mut room = [0; HELD];
     let mut pen = WriterPen::new(errors, &mut room);
     put_lost_file(path, loss, &mut pen);
     let _told = pen.finish();
-    Ending::Fault
+    ProgramEnd::Fault
 }
 
 fn put_lost_file<P: Pen>(path: &str, loss: FileLoss, pen: &mut P)
@@ -125,15 +125,15 @@ fn put_path<P: Pen>(path: &str, pen: &mut P)
 }
 
 /// Tells of a bad NAME=PATH word, and why.
-pub fn tell_bad_word<E: Sink>(word: &str, errors: &mut E) -> Ending
-    ensures ending { result ≡ Ending.WrongWords }
+pub fn tell_bad_word<E: Sink>(word: &str, errors: &mut E) -> ProgramEnd
+    ensures ending { result ≡ ProgramEnd.WrongWords }
     ensures told { Tells (E.output errors.old) (E.output errors.new) (bad_word_text word.now) }
 {
     let mut room = [0; HELD];
     let mut pen = WriterPen::new(errors, &mut room);
     put_bad_word(word, &mut pen);
     let _told = pen.finish();
-    Ending::WrongWords
+    ProgramEnd::WrongWords
 }
 
 fn put_bad_word<P: Pen>(word: &str, pen: &mut P)

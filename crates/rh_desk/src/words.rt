@@ -6,7 +6,7 @@ ghost use Rattle.rh_desk.specs.declared.command_line.TheConstants.{PAGES};
 ghost use Rattle.rh_desk.specs.Done.{CheckEnds, FileOver, InputCheckEnds, MapOver, RunEnds, RunOver, SheetOver};
 ghost use Rattle.rh_desk.specs.Done.{ShownOver, WordsEnd, line_as};
 ghost use Rattle.rh_desk.specs.Done.{sheet_name as name_of_sheet, status_as, streams};
-ghost use Rattle.rh_desk.specs.Ending.{ending_of, exit_status};
+ghost use Rattle.rh_desk.specs.ProgramEnd.{ending_of, exit_status};
 ghost use Rattle.rh_desk.specs.Telling.{Tells, run_fault_text};
 ghost use Rattle.rh_lines.specs.Flow.{Breaks, Input, Takes};
 ghost use Rattle.rh_session.specs.Outcome.{Finished};
@@ -15,12 +15,12 @@ ghost use Rattle.std.specs.declared.io.ErrorKind.TheVariants.{OutOfMemory};
 ghost use Rattle.rh_defs.specs.declared.sizes.TheConstants.{MAX_PAGES, MIN_PAGES};
 
 use crate::command_line::{PAGES, parsed, request_of};
-use crate::ending::Ending;
 use crate::files::{check_words, read_files, read_whole};
 use crate::input::{INPUT, read_input};
+use crate::program_end::ProgramEnd;
 use crate::reasons::FileLoss;
 use crate::request::{ImageKind, Request, RunRequest, Shown};
-use crate::telling::{ended, tell_file, tell_folder, told};
+use crate::telling::{ended, tell_file, tell_folder, tell_words_error};
 use memchr::memrchr;
 use rh_defs::Files;
 use rh_lines::{Flagged, Sink, Source, put};
@@ -58,10 +58,10 @@ pub fn program<R: rt::Files, I: Source, O: Sink, E: Sink>(
     ensures quiet { length words.now ≤ 1 → result ≤ 1 → E.output errors.new ≡ E.output errors.old }
 
     // It ends as a run over 64 pages without files does, and with more words as what they ask for does.
-    ensures alone { length words.now ≤ 1 → (ending : Ending) × (result ≡ exit_status ending)
+    ensures alone { length words.now ≤ 1 → (ending : ProgramEnd) × (result ≡ exit_status ending)
         × RunOver (start PAGES []) (streams (I.input input.old) (I.input input.new) (O.output output.old)
         (O.output output.new) (E.output errors.old) (E.output errors.new)) ending }
-    ensures asked { 1 < length words.now → (ending : Ending) × (result ≡ exit_status ending)
+    ensures asked { 1 < length words.now → (ending : ProgramEnd) × (result ≡ exit_status ending)
         × WordsEnd R.File.remaining (map string_bytes words.now)
         (streams (I.input input.old) (I.input input.new) (O.output output.old) (O.output output.new)
         (E.output errors.old) (E.output errors.new)) ending }
@@ -91,7 +91,7 @@ pub fn words_unread<E: Sink>(error: &io::Error, errors: &mut E) -> u8
         ended(Err(RunFault::NoMemory), errors)
     } else {
         let _told = put(errors, b"rh_desk: a word is not text\n");
-        Ending::WrongWords
+        ProgramEnd::WrongWords
     };
     ending.exit_status()
 }
@@ -104,7 +104,7 @@ fn run_told<I: Source, O: Sink, E: Sink>(
     script: &mut I,
     output: &mut O,
     errors: &mut E,
-) -> Ending
+) -> ProgramEnd
     requires least { MIN_PAGES ≤ pages }
     requires most { pages ≤ MAX_PAGES }
     requires fresh { (I.input script.old).reads ≡ 0 }
@@ -114,7 +114,7 @@ fn run_told<I: Source, O: Sink, E: Sink>(
         → Finished (start pages files) (I.input script.old) (I.input script.new) (O.output output.old)
         (O.output output.new) status }
     ensures well { exit_status result ≤ 1 → (O.output output.new).failed ≡ (O.output output.old).failed }
-    ensures run { result ≡ Ending.WrongWords → ⊥ }
+    ensures run { result ≡ ProgramEnd.WrongWords → ⊥ }
     ensures quiet { exit_status result ≤ 1 → E.output errors.new ≡ E.output errors.old }
     ensures over { RunOver (start pages files)
         (streams (I.input script.old) (I.input script.new) (O.output output.old) (O.output output.new)
@@ -132,12 +132,12 @@ fn map_told<I: Source, O: Sink, E: Sink>(
     script: &mut I,
     output: &mut O,
     errors: &mut E,
-) -> Ending
+) -> ProgramEnd
     requires least { MIN_PAGES ≤ pages }
     requires most { pages ≤ MAX_PAGES }
     requires fresh { (I.input script.old).reads ≡ 0 }
     ensures well { exit_status result ≤ 1 → (O.output output.new).failed ≡ (O.output output.old).failed }
-    ensures run { result ≡ Ending.WrongWords → ⊥ }
+    ensures run { result ≡ ProgramEnd.WrongWords → ⊥ }
     ensures over { MapOver marked (start pages files)
         (streams (I.input script.old) (I.input script.new) (O.output output.old) (O.output output.new)
         (E.output errors.old) (E.output errors.new)) result }
@@ -157,10 +157,10 @@ fn sheet_told<I: Source, O: Sink, E: Sink>(
     script: &mut I,
     output: &mut O,
     errors: &mut E,
-) -> Ending
+) -> ProgramEnd
     requires { (I.input script.old).reads ≡ 0 }
     ensures well { exit_status result ≤ 1 → (O.output output.new).failed ≡ (O.output output.old).failed }
-    ensures run { result ≡ Ending.WrongWords → ⊥ }
+    ensures run { result ≡ ProgramEnd.WrongWords → ⊥ }
     ensures over { SheetOver marked (name_of_sheet request.now.script.now) (start request.now.pages files)
         (streams (I.input script.old) (I.input script.new) (O.output output.old) (O.output output.new)
         (E.output errors.old) (E.output errors.new)) result }
@@ -195,10 +195,10 @@ fn show_told<I: Source, O: Sink, E: Sink>(
     script: &mut I,
     output: &mut O,
     errors: &mut E,
-) -> Ending
+) -> ProgramEnd
     requires { (I.input script.old).reads ≡ 0 }
     ensures well { exit_status result ≤ 1 → (O.output output.new).failed ≡ (O.output output.old).failed }
-    ensures run { result ≡ Ending.WrongWords → ⊥ }
+    ensures run { result ≡ ProgramEnd.WrongWords → ⊥ }
     ensures over { ShownOver request.now.shown request.now.script.now (start request.now.pages files)
         (streams (I.input script.old) (I.input script.new) (O.output output.old) (O.output output.new)
         (E.output errors.old) (E.output errors.new)) result }
@@ -221,17 +221,17 @@ fn run_words<R: rt::Files, I: Source, O: Sink, E: Sink>(
     input: &mut I,
     output: &mut O,
     errors: &mut E,
-) -> Ending
+) -> ProgramEnd
     requires { (I.input input.old).reads ≡ 0 }
     ensures well { exit_status result ≤ 1 → (O.output output.new).failed ≡ (O.output output.old).failed }
-    ensures wrong { result ≡ Ending.WrongWords → O.output output.new ≡ O.output output.old }
+    ensures wrong { result ≡ ProgramEnd.WrongWords → O.output output.new ≡ O.output output.old }
     ensures ends { WordsEnd R.File.remaining (map string_bytes words.now)
         (streams (I.input input.old) (I.input input.new) (O.output output.old) (O.output output.new)
         (E.output errors.old) (E.output errors.new)) result }
 {
     let matches = match parsed(alloc, words) {
         Ok(matches) => matches,
-        Err(error) => return told(alloc, &error, output, errors),
+        Err(error) => return tell_words_error(alloc, &error, output, errors),
     };
     match request_of(&matches) {
         Some(Request::Check { kind, file }) => {
@@ -240,7 +240,7 @@ fn run_words<R: rt::Files, I: Source, O: Sink, E: Sink>(
         Some(Request::Run(request)) => {
             run_request(runtime, alloc, &request, input, output, errors)
         }
-        None => Ending::WrongWords,
+        None => ProgramEnd::WrongWords,
     }
 }
 
@@ -253,10 +253,10 @@ fn run_request<R: rt::Files, I: Source, O: Sink, E: Sink>(
     input: &mut I,
     output: &mut O,
     errors: &mut E,
-) -> Ending
+) -> ProgramEnd
     requires { (I.input input.old).reads ≡ 0 }
     ensures well { exit_status result ≤ 1 → (O.output output.new).failed ≡ (O.output output.old).failed }
-    ensures wrong { result ≡ Ending.WrongWords → O.output output.new ≡ O.output output.old }
+    ensures wrong { result ≡ ProgramEnd.WrongWords → O.output output.new ≡ O.output output.old }
     ensures ends { RunEnds R.File.remaining request.now.shown request.now.pages request.now.script.now
         (map (λ word. word.now) request.now.files.now)
         (streams (I.input input.old) (I.input input.new) (O.output output.old) (O.output output.new)
@@ -289,9 +289,9 @@ fn show_file<F: Read + OpenFile + Drop, O: Sink, E: Sink>(
     file: F,
     output: &mut O,
     errors: &mut E,
-) -> Ending
+) -> ProgramEnd
     ensures well { exit_status result ≤ 1 → (O.output output.new).failed ≡ (O.output output.old).failed }
-    ensures run { result ≡ Ending.WrongWords → ⊥ }
+    ensures run { result ≡ ProgramEnd.WrongWords → ⊥ }
     ensures over { (input : Input) → FileOver F.remaining request.now.shown (start request.now.pages files)
         request.now.script.now (streams input input (O.output output.old) (O.output output.new)
         (E.output errors.old) (E.output errors.new)) result }
@@ -299,7 +299,7 @@ fn show_file<F: Read + OpenFile + Drop, O: Sink, E: Sink>(
     let is_folder = is_folder(&file);
     let mut reader = Flagged::new(file);
     let ending = show_told(alloc, files, request, &mut reader, output, errors);
-    if is_folder && ending == Ending::Fault {
+    if is_folder && ending == ProgramEnd::Fault {
         tell_folder(errors);
     }
     ending
@@ -321,9 +321,9 @@ fn check_file<R: rt::Files, I: Source, O: Sink, E: Sink>(
     input: &mut I,
     output: &mut O,
     errors: &mut E,
-) -> Ending
+) -> ProgramEnd
     ensures well { exit_status result ≤ 1 → (O.output output.new).failed ≡ (O.output output.old).failed }
-    ensures run { result ≡ Ending.WrongWords → ⊥ }
+    ensures run { result ≡ ProgramEnd.WrongWords → ⊥ }
     ensures of_file { path.now ≢ codes "-" → (I.input input.new ≡ I.input input.old)
         × CheckEnds R.File.remaining kind path.now (streams (I.input input.old) (I.input input.new)
         (O.output output.old) (O.output output.new) (E.output errors.old) (E.output errors.new)) result }
@@ -346,9 +346,9 @@ fn check_input<I: Source, O: Sink, E: Sink>(
     input: &mut I,
     output: &mut O,
     errors: &mut E,
-) -> Ending
+) -> ProgramEnd
     ensures well { exit_status result ≤ 1 → (O.output output.new).failed ≡ (O.output output.old).failed }
-    ensures run { result ≡ Ending.WrongWords → ⊥ }
+    ensures run { result ≡ ProgramEnd.WrongWords → ⊥ }
     ensures ends { InputCheckEnds kind (streams (I.input input.old) (I.input input.new)
         (O.output output.old) (O.output output.new) (E.output errors.old) (E.output errors.new)) result }
 {

@@ -32,8 +32,8 @@ use Rattle.rh_feed.proofs.LineLemmas.{NoFeed, bool_cases, ended-unended, ended_f
 use Rattle.rh_figure.specs.Map.{reply_lines}
 use Rattle.rh_map.specs.Replies.{excerpt_lines, lines_in, more_behind, rest_line}
 use Rattle.rh_map.proofs.SeamLemmas.{whole-reply}
-use Rattle.rh_sight.proofs.Places.{front-none, front-some}
-use Rattle.rh_sight.proofs.SegmentWalks.{length-items}
+use Rattle.rh_scene.proofs.Places.{front-none, front-some}
+use Rattle.rh_scene.proofs.SegmentWalks.{length-items}
 use Rattle.rh_drawn.specs.Inner.SmallTasks.{AreSmall, IsSmallTask}
 use Rattle.rh_map.specs.Replies.{front_of}
 use Rattle.rh_drawn.proofs.ExcerptLemmas.{AreOpen, OneLine, address-open, decimal-open, first-one, line-one, one-kept, rest-one}
@@ -46,10 +46,10 @@ use Rattle.rh_defs.specs.Questions.{each_of, block_items_from}
 use Rattle.rh_defs.specs.Slot.{Flex, weight, flex_start}
 use Rattle.rh_defs.specs.Text.{shown_bytes}
 use Rattle.rh_defs.specs.Pieces.{total}
-use Rattle.rh_sight.specs.declared.sight.HeapOf.TheVariants as heap_of
-use Rattle.rh_sight.specs.Walks.{ComesToRest}
-use Rattle.rh_sight.proofs.Heaps.{room, seen, sized-many, task-slot}
-use Rattle.rh_sight.proofs.SlotPieces.{few-blocks}
+use Rattle.rh_scene.specs.declared.sight.HeapOf.TheVariants as heap_of
+use Rattle.rh_scene.specs.Walks.{ComesToRest}
+use Rattle.rh_scene.proofs.Heaps.{room, seen, sized-many, task-slot}
+use Rattle.rh_scene.proofs.SlotPieces.{few-blocks}
 use Rattle.rh_drawn.proofs.Common.{heap_seen, option_map}
 use Rattle.rh_drawn.proofs.ExcerptLemmas.{Kept, kept}
 

@@ -48,13 +48,13 @@ pub use Rattle.rh_figure.specs.Scene.{Scene, message_of_scene, scene_of}
 pub use Rattle.rh_figure.specs.Share.{AreaOf, Holding, IsShared, Owner, Share, SlotOf, count_of, fixed_holding, holdings}
 pub use Rattle.rh_map.proofs.SeamLemmas.{shown-append}
 pub use Rattle.rh_map.specs.Written.{shown_lines}
-pub use Rattle.rh_sight.proofs.Holders.{at-some}
-pub use Rattle.rh_sight.proofs.Places.{rest-none, rest-some}
-pub use Rattle.rh_sight.specs.SightMessages.{held_on, lies_in, message_items, waiting_on}
-pub use Rattle.rh_sight.specs.Inner.Holdings.{made_holding, slot_holding}
-pub use Rattle.rh_sight.specs.SightPages.{share_in}
-pub use Rattle.rh_sight.specs.Seen.{SeesBlock, IsTaskSeen, heap_seen, heap_start_of}
-pub use Rattle.rh_sight.specs.Steps.{scene_at}
+pub use Rattle.rh_scene.proofs.Holders.{at-some}
+pub use Rattle.rh_scene.proofs.Places.{rest-none, rest-some}
+pub use Rattle.rh_scene.specs.SightMessages.{held_on, lies_in, message_items, waiting_on}
+pub use Rattle.rh_scene.specs.Inner.Holdings.{made_holding, slot_holding}
+pub use Rattle.rh_scene.specs.SightPages.{share_in}
+pub use Rattle.rh_scene.specs.Seen.{SeesBlock, IsTaskSeen, heap_seen, heap_start_of}
+pub use Rattle.rh_scene.specs.Steps.{scene_at}
 pub use Rattle.rh_drawn.specs.Bands.{band_cards}
 pub use Rattle.rh_drawn.specs.Inner.Surveys.{IsSurvey, is_fresh_card, with_items}
 pub use Rattle.rh_drawn.specs.DrawnCards.{count_shown}

@@ -18,13 +18,13 @@ use Rattle.rh_defs.specs.Records.{is_buffer_of}
 use Rattle.rh_figure.specs.Cards.{cards_from, in_use_text, post_card, post_or_used_card, used_card}
 use Rattle.rh_figure.specs.Layout.{is_fresh_block}
 use Rattle.rh_figure.specs.Scene.{held_list}
-use Rattle.rh_sight.specs.declared.sight.HeapOf.{HeapOf}
-use Rattle.rh_sight.specs.declared.sight.HeapOf.TheVariants as heap_of
-use Rattle.rh_sight.specs.Walks.{ComesToRest}
-use Rattle.rh_sight.specs.Inner.WalkItems.{IsInArea}
-use Rattle.rh_sight.proofs.Heaps.{Counted, told}
-use Rattle.rh_sight.proofs.PieceWalks.{item-in-area}
-use Rattle.rh_sight.proofs.SegmentWalks.{length-items, take-items}
+use Rattle.rh_scene.specs.declared.sight.HeapOf.{HeapOf}
+use Rattle.rh_scene.specs.declared.sight.HeapOf.TheVariants as heap_of
+use Rattle.rh_scene.specs.Walks.{ComesToRest}
+use Rattle.rh_scene.specs.Inner.WalkItems.{IsInArea}
+use Rattle.rh_scene.proofs.Heaps.{Counted, told}
+use Rattle.rh_scene.proofs.PieceWalks.{item-in-area}
+use Rattle.rh_scene.proofs.SegmentWalks.{length-items, take-items}
 use Rattle.rh_drawn.specs.Bands.{IsBandFor, IsBandOf, band_card, card_for, card_of_task}
 use Rattle.rh_drawn.specs.Inner.Surveys.{is_fresh_at, is_fresh_block_of, is_fresh_or_posted, is_fresh_used}
 use Rattle.rh_drawn.specs.Inner.BandItems.{HasSegment, IsItemOf}

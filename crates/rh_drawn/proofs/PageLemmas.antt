@@ -7,10 +7,10 @@ use Rattle.rh_defs.specs.Forms.{first_made, most_pages}
 use Rattle.rh_defs.specs.Desk.{module_area}
 use Rattle.rh_figure.specs.Changes.{taken_pages, takes_text}
 use Rattle.rh_figure.specs.Phrases.{owner_name}
-use Rattle.rh_sight.specs.declared.sight.PagesOf.{PagesOf}
-use Rattle.rh_sight.specs.declared.sight.PagesOf.TheVariants as pages
-use Rattle.rh_sight.specs.Seen.{owner_seen}
-use Rattle.rh_sight.proofs.Holders.{area-at, count-fixed, count-made, count-slot, room-of}
+use Rattle.rh_scene.specs.declared.sight.PagesOf.{PagesOf}
+use Rattle.rh_scene.specs.declared.sight.PagesOf.TheVariants as pages
+use Rattle.rh_scene.specs.Seen.{owner_seen}
+use Rattle.rh_scene.proofs.Holders.{area-at, count-fixed, count-made, count-slot, room-of}
 
 -- a member's number is at least the first one
 rise-least : {A : Type 0} (number : A → ℕ) (least next : ℕ) (xs : List A) (i : ℕ) (x : A) → Rise number least next xs → slice_get xs i ≡ Some x

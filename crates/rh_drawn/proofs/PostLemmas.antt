@@ -18,10 +18,10 @@ use Rattle.rh_figure.specs.Cards.{after_ref, next_text}
 use Rattle.rh_figure.specs.Scene.{held_list, ref_of}
 use Rattle.rh_map.specs.MapMessages.{held_text, message_entry_text, waits_text}
 use Rattle.rh_map.specs.MapMessages as lines
-use Rattle.rh_sight.specs.declared.message_list.Place.{Place}
-use Rattle.rh_sight.specs.declared.message_list.Place.TheVariants.{Held}
-use Rattle.rh_sight.specs.SightMessages.{before_next, items_behind, first_ref, held_ref, is_held_by, seen_item, message_place, waits_for}
-use Rattle.rh_sight.proofs.Posts.{held-is}
+use Rattle.rh_scene.specs.declared.message_list.Place.{Place}
+use Rattle.rh_scene.specs.declared.message_list.Place.TheVariants.{Held}
+use Rattle.rh_scene.specs.SightMessages.{before_next, items_behind, first_ref, held_ref, is_held_by, seen_item, message_place, waits_for}
+use Rattle.rh_scene.proofs.Posts.{held-is}
 use Rattle.rh_drawn.specs.Inner.BandItems.{place_seen, IsItemOf}
 use Rattle.rh_drawn.specs.Inner.LettersBehind.{entry_seen, letterbox_in}
 use Rattle.rh_drawn.proofs.UnderLemmas.{is_some, some-more}

@@ -4,7 +4,7 @@ use Rattle.rh_drawn.proofs.Common.{flat_map-append, Desk, Parcel, Text, task_nam
 use Rattle.rh_defs.specs.Messages.{action_of}
 use Rattle.rh_figure.specs.Changes.{returns_line}
 use Rattle.rh_figure.specs.Phrases.{is_returned}
-use Rattle.rh_sight.specs.SightMessages.{seen_item}
+use Rattle.rh_scene.specs.SightMessages.{seen_item}
 
 abbrev pub goes_back : ℕ → Parcel → Bool
 goes_back held p = p.message.my_ref == held && is_returned p.code

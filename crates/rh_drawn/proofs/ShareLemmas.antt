@@ -8,8 +8,8 @@ use Rattle.rh_defs.specs.Pieces.{total}
 use Rattle.rh_defs.specs.Desk.{free_pages}
 use Rattle.rh_defs.proofs.Cuts.{total-append}
 use Rattle.rh_figure.specs.Share.{is_owner, times}
-use Rattle.rh_sight.specs.SightPages.{pages_among}
-use Rattle.rh_sight.proofs.Holders.{among-at, counted, desk-apart, holdings-used}
+use Rattle.rh_scene.specs.SightPages.{pages_among}
+use Rattle.rh_scene.proofs.Holders.{among-at, counted, desk-apart, holdings-used}
 
 -- ---- how often a number stands in a list
 

@@ -2,7 +2,7 @@
 use Rattle.rh_drawn.proofs.Common.{◌≡◌, ℕ, ◌+◌, ◌<◌, ◌≤◌, refl, ap, sym, ◌∙◌, List, [], ◌∷◌, ◌++◌, length, drop, get_or, Some, None, slice_get, flat_map}
 use Rattle.rh_drawn.proofs.Common.{flat_map-append, drop_all, rest-some}
 use Rattle.std.proofs.lemmas.List.{drop_more}
-use Rattle.rh_sight.proofs.Places.{rest-none}
+use Rattle.rh_scene.proofs.Places.{rest-none}
 
 -- a text that is made thing by thing
 abbrev pub Each : {A B : Type 0} → (List A → List B) → (A → List B) → Type 0

@@ -4,9 +4,9 @@ use Rattle.rh_defs.specs.Heap.{Segment, Heap, first_place}
 use Rattle.rh_defs.specs.Desk.{Desk, Task}
 use Rattle.rh_figure.specs.Scene.{Scene}
 use Rattle.rh_figure.specs.Cards.{Card, hole_card, heap_card, module_card, cards_from}
-use Rattle.rh_sight.specs.declared.sight.HeapOf.{HeapOf}
-use Rattle.rh_sight.specs.declared.sight.HeapOf.TheVariants as heap_of
-use Rattle.rh_sight.specs.Seen.{heap_start_of}
+use Rattle.rh_scene.specs.declared.sight.HeapOf.{HeapOf}
+use Rattle.rh_scene.specs.declared.sight.HeapOf.TheVariants as heap_of
+use Rattle.rh_scene.specs.Seen.{heap_start_of}
 use Rattle.rh_drawn.specs.declared.heap_cards.Band.{Band}
 
 -- a band is of the task at the place, or of the module area

@@ -3,14 +3,14 @@
 ghost use Rattle.std.specs.Prelude.{◌≡◌, ◌<◌, ◌==◌, ◌++◌, [], flat_map, if◌then◌else◌, map, slice_index};
 ghost use Rattle.rh_figure.specs.Figure.{area_panels, fixed_panel, made_panel, scrap_text};
 ghost use Rattle.rh_map.specs.MapAreas.{scrap_note_of};
-ghost use Rattle.rh_sight.specs.Steps.{IsStepOf, scene_at};
+ghost use Rattle.rh_scene.specs.Steps.{IsStepOf, scene_at};
 ghost use Rattle.rh_defs.specs.declared.sizes.TheConstants.{FIXED_AREAS};
 
 use crate::artist::Artist;
 use rh_defs::sizes::{FIXED_AREAS, MODULE_AREA, SCRAP_AREA};
 use rh_lines::Pen;
-use rh_map::ScrapFile;
-use rh_sight::{PagesOf, Sight, Step, pages_of};
+use rh_map::ScrapLine;
+use rh_scene::{PagesOf, Sight, Step, pages_of};
 
 /// Shows each of areas 0 to 5 that has pages, but the module area, and each made area.
 pub fn show_areas<S: Sight, A: Artist, P: Pen>(sight: &S, step: &Step<'_>, artist: &A, pen: &mut P)
@@ -48,14 +48,14 @@ fn show_fixed<S: Sight, A: Artist, P: Pen>(
 }
 
 /// The scrap file, if it lies in the area with the number.
-fn scrap_in<S: Sight>(sight: &S, number: u32) -> Option<ScrapFile>
+fn scrap_in<S: Sight>(sight: &S, number: u32) -> Option<ScrapLine>
     ensures { scrap_note_of result ≡ (if number == 5 then scrap_text (S.desk sight.now).scrap else []) }
 {
     if number != SCRAP_AREA {
         return None;
     }
     let scrap = sight.scrap()?;
-    Some(ScrapFile {
+    Some(ScrapLine {
         size: scrap.size,
         load: scrap.load,
     })

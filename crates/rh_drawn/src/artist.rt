@@ -14,7 +14,7 @@ ghost use Rattle.rh_map.specs.Sides.{side_of};
 
 use rh_defs::{Anchor, Name, Ref};
 use rh_lines::{Pen, Row};
-use rh_map::{CardBlock, CardMessage, MessageEntry, ScrapFile, Side};
+use rh_map::{CardBlock, CardMessage, MessageEntry, ScrapLine, Side};
 
 /// What shows the things of a step as they are walked.
 pub trait Artist {
@@ -36,7 +36,7 @@ pub trait Artist {
         ensures { P.offered pen.new ≡ P.offered pen.old ++ change_text change.now };
 
     /// Shows one of areas 0 to 5, which has these pages, and the scrap file where it lies in that area.
-    fn fixed_area<P: Pen>(&self, number: u32, pages: &[u16], scrap: Option<ScrapFile>, pen: &mut P)
+    fn fixed_area<P: Pen>(&self, number: u32, pages: &[u16], scrap: Option<ScrapLine>, pen: &mut P)
         requires number { number < FIXED_AREAS }
         requires few { length pages.now ≤ MAX_PAGES }
         ensures { P.offered pen.new ≡ P.offered pen.old ++ area_text (area_panel number

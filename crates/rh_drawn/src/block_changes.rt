@@ -9,7 +9,7 @@ ghost use Rattle.rh_drawn.specs.DrawnSlides.{summary_of};
 ghost use Rattle.rh_drawn.specs.Inner.SlidesSeen.{from_seen, with_one};
 ghost use Rattle.rh_figure.specs.Changes.{Slide, block_change, block_changes, gone_line, has_anchor as has_anchor_in};
 ghost use Rattle.rh_figure.specs.Changes.{item_with_anchor, slide_change, slide_of, slides};
-ghost use Rattle.rh_sight.specs.Steps.{scene_at};
+ghost use Rattle.rh_scene.specs.Steps.{scene_at};
 
 use crate::artist::Artist;
 use arrayvec::ArrayVec;
@@ -17,7 +17,7 @@ use rh_defs::BlockItem;
 use rh_defs::sizes::ANCHORS;
 use rh_lines::Pen;
 use rh_map::{block_gone, block_new, block_resized, blocks_slide};
-use rh_sight::{Kept, Sight, Step, task_with};
+use rh_scene::{Kept, Sight, Step, task_with};
 
 /// Shows which blocks of the named task are gone, are new or have another size, and how those that lie elsewhere
 /// slid.

@@ -2,7 +2,7 @@
 
 ghost use Rattle.std.specs.Prelude.{◌≡◌, ◌++◌, flat_map};
 ghost use Rattle.rh_figure.specs.Changes.{changes};
-ghost use Rattle.rh_sight.specs.Steps.{IsStepOf, scene_at};
+ghost use Rattle.rh_scene.specs.Steps.{IsStepOf, scene_at};
 
 use crate::artist::Artist;
 use crate::block_changes::show_block_changes;
@@ -10,7 +10,7 @@ use crate::lists::Lists;
 use crate::page_changes::show_page_changes;
 use crate::post_changes::show_post_changes;
 use rh_lines::Pen;
-use rh_sight::{Sight, Step};
+use rh_scene::{Sight, Step};
 
 /// Shows what a step has changed: of the pool, of the named task's flex blocks, and of the messages.
 pub fn show_changes<S: Sight, A: Artist, P: Pen>(

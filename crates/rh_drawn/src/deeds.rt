@@ -11,14 +11,14 @@ ghost use Rattle.rh_drawn.specs.DrawnReplies.{Excerpts};
 ghost use Rattle.rh_map.specs.Replies.{front_of};
 ghost use Rattle.rh_figure.specs.Map.{is_mark as is_mark_of};
 ghost use Rattle.rh_figure.specs.Scene.{marks_of};
-ghost use Rattle.rh_sight.specs.Steps.{marks_seen};
+ghost use Rattle.rh_scene.specs.Steps.{marks_seen};
 
 use crate::drawn::Drawn;
 use crate::excerpt::{excerpt_answer, excerpt_reply};
 use rh_defs::sizes::LONGEST_LINE;
 use rh_defs::{Command, LineFault, Reply};
 use rh_map::{Front, is_mark};
-use rh_sight::{Kept, Marks, Messages, PageList, Sight, Step};
+use rh_scene::{Kept, Marks, Messages, PageList, Sight, Step};
 
 /// What was done at a step: what was kept before, the command with its reply, None for a bad line, how many lines the
 /// reply has, and whether a mark asked for the step.
@@ -81,7 +81,7 @@ pub fn is_wanted(wanted: bool, line: &[u8]) -> bool
 }
 
 /// Whether this holds, unless that does.
-pub fn holds_unless(this: bool, that: bool) -> bool
+pub fn and_not(this: bool, that: bool) -> bool
     ensures { result ≡ (this && not that) }
 {
     this && !that

@@ -3,8 +3,8 @@
 ghost use Rattle.rh_defs.specs.Desk.{Desk};
 ghost use Rattle.rh_defs.specs.Order.{IsReordered};
 
+use rh_scene::Sight;
 use rh_session::Desktop;
-use rh_sight::Sight;
 
 /// A desktop that can be looked at. What it may be seen as are the desks that differ from the one that is looked at in
 /// the order of messages to different tasks alone, which no figure shows.

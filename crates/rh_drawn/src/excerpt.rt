@@ -13,7 +13,7 @@ use crate::drawn::Drawn;
 use rh_defs::{LineFault, Question, Reply};
 use rh_lines::{put_fault, put_first_line};
 use rh_map::Front;
-use rh_sight::Sight;
+use rh_scene::Sight;
 
 /// Puts the answer to a question in place of what was there, and answers how many lines it has.
 pub fn excerpt_answer<D: Drawn>(drawn: &D, question: &Question, front: &mut Front) -> u32

@@ -4,7 +4,7 @@ ghost use Rattle.std.specs.Prelude.{◌≡◌, ◌≤◌, ◌++◌, length};
 ghost use Rattle.rh_figure.specs.Figure.{figure};
 ghost use Rattle.rh_figure.specs.Map.{figure_lines};
 ghost use Rattle.rh_map.specs.Written.{shown_lines};
-ghost use Rattle.rh_sight.specs.Steps.{IsStepOf, scene_at};
+ghost use Rattle.rh_scene.specs.Steps.{IsStepOf, scene_at};
 ghost use Rattle.rh_defs.specs.Post.{most_messages};
 
 use crate::areas::show_areas;
@@ -18,7 +18,7 @@ use crate::slots::print_slot_part;
 use crate::transfers::print_transfer_part;
 use rh_lines::Pen;
 use rh_map::put_line;
-use rh_sight::{Sight, Step};
+use rh_scene::{Sight, Step};
 
 /// Writes what a step has changed, and the figure of the desk behind it.
 pub fn print_figure<S: Sight, P: Pen>(sight: &S, step: &Step<'_>, lists: &mut Lists, pen: &mut P)

@@ -10,8 +10,8 @@ ghost use Rattle.rh_drawn.specs.Inner.CardsBehind.{place_behind, cards_behind};
 ghost use Rattle.rh_figure.specs.Cards.{Card, flex_cards, shown_cards};
 ghost use Rattle.rh_figure.specs.Layout.{is_fresh_flex as is_fresh_flex_in};
 ghost use Rattle.rh_figure.specs.declared.limits.TheConstants.{MOST_CARDS};
-ghost use Rattle.rh_sight.specs.Seen.{IsTaskSeen};
-ghost use Rattle.rh_sight.specs.Steps.{scene_at};
+ghost use Rattle.rh_scene.specs.Seen.{IsTaskSeen};
+ghost use Rattle.rh_scene.specs.Steps.{scene_at};
 
 use crate::artist::CardArtist;
 use crate::cards::{front_length, shown_count};
@@ -20,7 +20,7 @@ use rh_defs::BlockItem;
 use rh_figure::limits::{CARD_BYTES, MOST_CARDS};
 use rh_lines::Pen;
 use rh_map::CardBlock;
-use rh_sight::{Sight, Step, TaskSight, is_fresh_flex};
+use rh_scene::{Sight, Step, TaskSight, is_fresh_flex};
 
 /// Shows the cards of a task's flex blocks, from below.
 pub fn show_flex_cards<S: Sight, A: CardArtist, P: Pen>(

@@ -18,10 +18,10 @@ ghost use Rattle.rh_figure.specs.Cards.{hole_card, in_use_text, post_card, shown
 ghost use Rattle.rh_figure.specs.Scene.{live};
 ghost use Rattle.rh_figure.specs.declared.limits.TheConstants.{MOST_CARDS};
 ghost use Rattle.rh_map.specs.MapMessages.{place_text};
-ghost use Rattle.rh_sight.specs.SightMessages.{lies_in};
-ghost use Rattle.rh_sight.specs.Seen.{SeesBlock, SeesFree, heap_seen, heap_start_of};
-ghost use Rattle.rh_sight.specs.Steps.{IsStepOf, scene_at};
-ghost use Rattle.rh_sight.specs.Inner.WalkItems.{IsInArea};
+ghost use Rattle.rh_scene.specs.SightMessages.{lies_in};
+ghost use Rattle.rh_scene.specs.Seen.{SeesBlock, SeesFree, heap_seen, heap_start_of};
+ghost use Rattle.rh_scene.specs.Steps.{IsStepOf, scene_at};
+ghost use Rattle.rh_scene.specs.Inner.WalkItems.{IsInArea};
 
 use crate::artist::CardArtist;
 use crate::cards::{front_length, shown_count};
@@ -32,7 +32,7 @@ use rh_defs::{Handle, Incoming, MessageItem, SegmentItem};
 use rh_figure::limits::{CARD_BYTES, MOST_CARDS};
 use rh_lines::Pen;
 use rh_map::{CardBlock, CardMessage, ChainPlace};
-use rh_sight::{
+use rh_scene::{
     HeapOf, Place, Sight, Step, heap_address, is_fresh_block, is_new_ref, message_in, place_behind,
     place_of,
 };

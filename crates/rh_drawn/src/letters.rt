@@ -13,8 +13,8 @@ ghost use Rattle.rh_figure.specs.Figure.{letterboxes};
 ghost use Rattle.rh_figure.specs.declared.limits.TheConstants.{MOST_LISTED};
 ghost use Rattle.rh_map.specs.Written.{shown_lines};
 ghost use Rattle.rh_map.specs.declared.letterboxes.MessageEntry.{MessageEntry};
-ghost use Rattle.rh_sight.specs.SightMessages.{is_held_by, waits_for};
-ghost use Rattle.rh_sight.specs.Steps.{IsStepOf, scene_at};
+ghost use Rattle.rh_scene.specs.SightMessages.{is_held_by, waits_for};
+ghost use Rattle.rh_scene.specs.Steps.{IsStepOf, scene_at};
 
 use crate::artist::Artist;
 use crate::map_artist::MapArtist;
@@ -22,7 +22,7 @@ use rh_defs::{Action, EventCode, Handle, MessageItem, Name, Ref};
 use rh_figure::limits::MOST_LISTED;
 use rh_lines::Pen;
 use rh_map::{MessageEntry, put_line};
-use rh_sight::{Sight, Step, held_by};
+use rh_scene::{Sight, Step, held_by};
 
 /// No message, in a place for one.
 const NO_ENTRY: MessageEntry = MessageEntry {

@@ -32,7 +32,7 @@ pub use areas::show_areas;
 pub use artist::{Artist, CardArtist};
 pub use block_changes::{Slid, find_slid};
 pub use changes::show_changes;
-pub use deeds::{Deed, answer, holds_unless, is_wanted, rest_fault, step_of};
+pub use deeds::{Deed, and_not, answer, is_wanted, rest_fault, step_of};
 pub use drawn::Drawn;
 pub use excerpt::{count_made, excerpt_fault};
 pub use flex_cards::show_flex_cards;

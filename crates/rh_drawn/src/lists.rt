@@ -3,7 +3,7 @@
 use arrayvec::ArrayVec;
 use rh_defs::BlockItem;
 use rh_defs::sizes::{ANCHORS, MAX_PAGES};
-use rh_sight::Pieces;
+use rh_scene::Pieces;
 
 /// The lists that a figure is drawn with, one area after the other: a task's flex blocks, the pieces of an area, and a
 /// character for each page of the pool. No figure takes memory.

@@ -8,7 +8,7 @@ use crate::artist::{Artist, CardArtist};
 use rh_defs::{Anchor, Name, Ref};
 use rh_lines::{Pen, Row};
 use rh_map::{
-    CardBlock, CardMessage, MessageEntry, ScrapFile, Side, print_change, print_fixed_area,
+    CardBlock, CardMessage, MessageEntry, ScrapLine, Side, print_change, print_fixed_area,
     print_flex_card, print_hole_card, print_letterbox, print_made_area, print_message_card,
     print_more_card, print_transfer, print_used_card,
 };
@@ -33,7 +33,7 @@ impl Artist for MapArtist {
         &self,
         number: u32,
         pages: &[u16],
-        scrap: Option<ScrapFile>,
+        scrap: Option<ScrapLine>,
         pen: &mut P,
     ) {
         print_fixed_area(number, pages, scrap, pen);

@@ -14,9 +14,9 @@ ghost use Rattle.rh_map.specs.Replies.{front_of};
 ghost use Rattle.rh_figure.specs.Share.{IsShared};
 ghost use Rattle.rh_map.specs.Written.{shown_lines};
 ghost use Rattle.rh_session.specs.Outcome.{status_of};
-ghost use Rattle.rh_sight.specs.SightPages.{share_in};
+ghost use Rattle.rh_scene.specs.SightPages.{share_in};
 
-use crate::deeds::{Deed, answer, holds_unless, is_wanted, rest_fault, step_of};
+use crate::deeds::{Deed, and_not, answer, is_wanted, rest_fault, step_of};
 use crate::drawn::Drawn;
 use crate::excerpt::excerpt_fault;
 use crate::lists::Lists;
@@ -26,8 +26,8 @@ use rh_defs::{Command, LineFault, Question, Reply};
 use rh_feed::LineTaker;
 use rh_lines::{Pen, read_line};
 use rh_map::{Front, print_remark};
+use rh_scene::{Kept, Messages, PageList, is_still};
 use rh_session::Status;
-use rh_sight::{Kept, Messages, PageList, is_still};
 
 /// A map in the middle of its script: what is drawn, whether marked steps alone are shown, how many steps are behind
 /// it, whether a mark was seen since the last, whether a line was bad; and what a step is drawn with.
@@ -84,7 +84,7 @@ impl<D: Drawn> Mapper<D> {
     {
         self.drawn.spelled();
         self.wanted = is_wanted(self.wanted, line);
-        if holds_unless(self.marked, self.wanted) {
+        if and_not(self.marked, self.wanted) {
             return;
         }
         print_remark(line, pen);
@@ -99,7 +99,7 @@ impl<D: Drawn> Mapper<D> {
         ensures steps { self.new.steps ≡ self.old.steps + 1 }
     {
         let wanted = self.begin_step();
-        if holds_unless(self.marked, wanted) {
+        if and_not(self.marked, wanted) {
             self.change(command);
             self.drawn.spelled();
             return;
@@ -126,7 +126,7 @@ impl<D: Drawn> Mapper<D> {
     {
         self.has_bad_line = true;
         let wanted = self.begin_step();
-        if holds_unless(self.marked, wanted) {
+        if and_not(self.marked, wanted) {
             self.drawn.spelled();
             return;
         }
@@ -193,7 +193,7 @@ impl<D: Drawn> Mapper<D> {
             line,
             front: self.front.as_slice(),
             count: deed.count,
-            is_still: holds_unless(is_still(deed.command, deed.reply), deed.wanted),
+            is_still: and_not(is_still(deed.command, deed.reply), deed.wanted),
         };
         print_step(&self.drawn, &step, &above, &mut self.lists, pen);
     }

@@ -3,7 +3,7 @@
 ghost use Rattle.std.specs.Prelude.{◌≡◌, ◌++◌};
 ghost use Rattle.rh_drawn.specs.Parts.{module_part};
 ghost use Rattle.rh_map.specs.Written.{shown_lines};
-ghost use Rattle.rh_sight.specs.Steps.{IsStepOf, scene_at};
+ghost use Rattle.rh_scene.specs.Steps.{IsStepOf, scene_at};
 
 use crate::heap_cards::{Band, show_heap_cards};
 use crate::lists::Lists;
@@ -11,8 +11,8 @@ use crate::map_artist::MapArtist;
 use rh_defs::Handle;
 use rh_defs::sizes::{MODULE_AREA, MODULE_START};
 use rh_lines::Pen;
-use rh_map::{Area, print_area, print_module_heading};
-use rh_sight::{HeapOf, PagesOf, Sight, Step, module_pieces, pages_of};
+use rh_map::{AreaBytes, print_area, print_module_heading};
+use rh_scene::{HeapOf, PagesOf, Sight, Step, module_pieces, pages_of};
 
 /// Writes the module area.
 pub fn print_module_part<S: Sight, P: Pen>(
@@ -28,7 +28,7 @@ pub fn print_module_part<S: Sight, P: Pen>(
     sight.spelled();
     print_module_heading(sight.fixed_pages(MODULE_AREA), pen);
     module_pieces(sight, step, &mut lists.pieces);
-    let area = Area {
+    let area = AreaBytes {
         start: MODULE_START as u32,
         pages: pages_of(sight, step.pages, PagesOf::Fixed(MODULE_AREA)),
         pieces: &lists.pieces,

@@ -6,15 +6,15 @@ ghost use Rattle.rh_defs.specs.Desk.{Task};
 ghost use Rattle.rh_defs.specs.declared.sizes.TheConstants.{MAX_PAGES};
 ghost use Rattle.rh_figure.specs.Changes.{freed_pages, freed_text, page_changes, takes_text};
 ghost use Rattle.rh_figure.specs.Share.{AreaOf, count_of, fixed_holding, holdings};
-ghost use Rattle.rh_sight.specs.Inner.Holdings.{made_holding, slot_holding};
-ghost use Rattle.rh_sight.specs.Seen.{IsTaskSeen, owner_seen};
-ghost use Rattle.rh_sight.specs.Steps.{IsStepOf, scene_at};
+ghost use Rattle.rh_scene.specs.Inner.Holdings.{made_holding, slot_holding};
+ghost use Rattle.rh_scene.specs.Seen.{IsTaskSeen, owner_seen};
+ghost use Rattle.rh_scene.specs.Steps.{IsStepOf, scene_at};
 
 use crate::artist::Artist;
 use rh_defs::sizes::FIXED_AREAS;
 use rh_lines::Pen;
 use rh_map::{area_takes, freed, slot_takes};
-use rh_sight::{AreaSight, Owner, PagesOf, Sight, Step, TaskSight, free_of, pages_of};
+use rh_scene::{AreaSight, Owner, PagesOf, Sight, Step, TaskSight, free_of, pages_of};
 
 /// Shows which pages each owner has taken, and which were given back.
 pub fn show_page_changes<S: Sight, A: Artist, P: Pen>(

@@ -7,14 +7,14 @@ ghost use Rattle.rh_drawn.specs.Inner.Marked.{made_pages, marked, marked_all, sl
 ghost use Rattle.rh_figure.specs.Figure.{owner_of};
 ghost use Rattle.rh_figure.specs.Rows.{page_mark};
 ghost use Rattle.rh_map.specs.Written.{shown_lines};
-ghost use Rattle.rh_sight.specs.SightPages.{share_in};
-ghost use Rattle.rh_sight.specs.Steps.{IsStepOf, scene_at};
+ghost use Rattle.rh_scene.specs.SightPages.{share_in};
+ghost use Rattle.rh_scene.specs.Steps.{IsStepOf, scene_at};
 
 use crate::lists::Lists;
 use rh_defs::sizes::FIXED_AREAS;
 use rh_lines::Pen;
 use rh_map::{area_mark, print_pool, print_pool_heading, slot_mark};
-use rh_sight::{PagesOf, Sight, Step, pages_of};
+use rh_scene::{PagesOf, Sight, Step, pages_of};
 
 /// The character of a free page.
 const FREE: u8 = b'.';

@@ -8,14 +8,14 @@ ghost use Rattle.rh_figure.specs.Changes.{bytes_sent_text, post_changes, returns
 ghost use Rattle.rh_figure.specs.Phrases.{is_returned as is_returned_as};
 ghost use Rattle.rh_figure.specs.Scene.{Before, Marks, scene_of, waiting};
 ghost use Rattle.rh_figure.specs.Share.{Share};
-ghost use Rattle.rh_sight.specs.Steps.{IsStepOf, scene_at};
+ghost use Rattle.rh_scene.specs.Steps.{IsStepOf, scene_at};
 
 use crate::artist::Artist;
 use crate::who::who_of;
 use rh_defs::{Body, EventCode, Letter, MessageItem, Ref};
 use rh_lines::Pen;
 use rh_map::{bytes_sent, message_returns, task_sends, task_takes};
-use rh_sight::{Sight, Step};
+use rh_scene::{Sight, Step};
 
 /// Shows which message goes back, which was taken and which was sent.
 pub fn show_post_changes<S: Sight, A: Artist, P: Pen>(

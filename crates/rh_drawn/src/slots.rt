@@ -10,8 +10,8 @@ ghost use Rattle.rh_figure.specs.Map.{drawing_lines};
 ghost use Rattle.rh_figure.specs.Scene.{Scene};
 ghost use Rattle.rh_figure.specs.Share.{SlotOf, is_owner};
 ghost use Rattle.rh_map.specs.Written.{shown_lines};
-ghost use Rattle.rh_sight.specs.Seen.{IsTaskSeen};
-ghost use Rattle.rh_sight.specs.Steps.{IsStepOf, scene_at};
+ghost use Rattle.rh_scene.specs.Seen.{IsTaskSeen};
+ghost use Rattle.rh_scene.specs.Steps.{IsStepOf, scene_at};
 
 use crate::flex_cards::show_flex_cards;
 use crate::heap_cards::{Band, show_heap_cards};
@@ -19,8 +19,8 @@ use crate::lists::Lists;
 use crate::map_artist::MapArtist;
 use rh_defs::sizes::SLOT_START;
 use rh_lines::Pen;
-use rh_map::{Area, SlotHeading, print_area, print_slot_heading, slot_mark};
-use rh_sight::{HeapOf, PagesOf, Sight, Step, TaskSight, is_drawn, pages_of, slot_pieces};
+use rh_map::{AreaBytes, SlotHeading, print_area, print_slot_heading, slot_mark};
+use rh_scene::{HeapOf, PagesOf, Sight, Step, TaskSight, is_drawn, pages_of, slot_pieces};
 
 /// Writes all slots, in order of handle.
 pub fn print_slot_part<S: Sight, P: Pen>(sight: &S, step: &Step<'_>, lists: &mut Lists, pen: &mut P)
@@ -107,7 +107,7 @@ fn print_slot<S: Sight, P: Pen>(
     sight.spelled();
     sight.blocks(i, &mut lists.blocks);
     slot_pieces(sight, step, i, task, &lists.blocks, &mut lists.pieces);
-    let area = Area {
+    let area = AreaBytes {
         start: SLOT_START as u32,
         pages: pages_of(sight, step.pages, PagesOf::Slot(i)),
         pieces: &lists.pieces,

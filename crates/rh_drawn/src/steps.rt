@@ -4,14 +4,14 @@ ghost use Rattle.std.specs.Prelude.{◌≡◌, ◌≤◌, ◌++◌, ℕ, List, l
 ghost use Rattle.rh_drawn.specs.DrawnReplies.{Excerpts};
 ghost use Rattle.rh_figure.specs.Map.{step_lines};
 ghost use Rattle.rh_map.specs.Written.{shown_lines};
-ghost use Rattle.rh_sight.specs.Steps.{IsStepOf, scene_at};
+ghost use Rattle.rh_scene.specs.Steps.{IsStepOf, scene_at};
 ghost use Rattle.rh_defs.specs.Post.{most_messages};
 
 use crate::figure::print_figure;
 use crate::lists::Lists;
 use rh_lines::Pen;
 use rh_map::{print_reply_lines, print_step_line, print_still};
-use rh_sight::{Sight, Step};
+use rh_scene::{Sight, Step};
 
 /// What stands above a figure: the step's number, its line of the script, the front of its reply and how many lines
 /// that has; and whether there is no figure, since memory stays as it is.

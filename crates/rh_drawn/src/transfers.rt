@@ -20,7 +20,7 @@ use crate::usage::{in_id, out_id};
 use rh_defs::{Incoming, Name, Outgoing, RecordItem, Ref, State};
 use rh_lines::Pen;
 use rh_map::{Side, put_line};
-use rh_sight::{Sight, TaskSight};
+use rh_scene::{Sight, TaskSight};
 
 /// Writes the transfers that go out, each with the side that comes in, and those that only come in, below a heading.
 pub fn print_transfer_part<S: Sight, P: Pen>(sight: &S, pen: &mut P)

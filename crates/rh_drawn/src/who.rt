@@ -6,7 +6,7 @@ ghost use Rattle.rh_map.specs.MapTasks.{who_text};
 
 use rh_defs::Handle;
 use rh_map::Who;
-use rh_sight::{Sight, task_with};
+use rh_scene::{Sight, task_with};
 
 /// The task with the handle: by its name where it lives.
 pub fn who_of<S: Sight>(sight: &S, handle: Handle) -> Who<'_>

@@ -68,7 +68,7 @@ unfoldable pub use Rattle.rh_defs.specs.Commands.{cancel_in, cancel_out, poll, p
 pub use Rattle.rh_defs.specs.Text.{Words}
 unfoldable pub use Rattle.rh_defs.specs.Text.{address}
 pub use Rattle.rh_defs.specs.Transfer.{answers_none}
-unfoldable pub use Rattle.rh_defs.specs.Transfer.{came, came_back, handled}
+unfoldable pub use Rattle.rh_defs.specs.Transfer.{delivered, bounced_to, handled}
 pub use Rattle.rh_defs.specs.declared.command.Command.{Command}
 pub use Rattle.rh_defs.specs.declared.command.Manner.{Manner}
 pub use Rattle.rh_defs.specs.declared.fault.LineFault.TheVariants.{Unknown}

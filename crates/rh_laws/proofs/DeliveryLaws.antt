@@ -4,7 +4,7 @@ use Rattle.rh_laws.proofs.Common.{subst, inl, inr, arith, ◌==◌, if◌then◌
 use Rattle.rh_laws.proofs.Common.{Command, Manner, Body, EventCode, User, Recorded, Acknowledge, Reply, Incoming, Outgoing, Sending, NothingSent}
 use Rattle.rh_laws.proofs.Common.{NotOpen, Granted, or_else, FileList, IsDesk, Parcel, action_of, Post, post_join, post_poll, all_in_range, in_range}
 use Rattle.rh_laws.proofs.Common.{in_id, is_open, out_id, Desk, Task, has_name, named, next_ref, task_at, with_delivered, Answer, start_task, kill}
-use Rattle.rh_laws.proofs.Common.{make, came, handled, after, start_with, save, repeat, poll, poll_taken, cancel_in, cancel_out, change, step, OnGrant}
+use Rattle.rh_laws.proofs.Common.{make, delivered, handled, after, start_with, save, repeat, poll, poll_taken, cancel_in, cancel_out, change, step, OnGrant}
 use Rattle.rh_laws.proofs.Common.{chosen, granted, granted-past, granted-then, granted-with, or_else-keeps, after-is, start-is, step-keeps, Edits, held}
 use Rattle.rh_laws.proofs.Common.{Offers, Has, Ascend, and_left, and_right, contains_of, first_is, has_of, is_equal, none_some, open_is, same_value}
 use Rattle.rh_laws.proofs.Common.{Good, found_name, fits, Fits, is_found, the_task, keeps, field_is, seen_parcel, view, Changed, IsOnMemory, granted-on}
@@ -312,8 +312,8 @@ module _ (a : Marks) (d : Desk) (f : Fits d) (g : Agrees a d) where
           subst (λ k. Loaded a k x.id) (from ∙ sym to) (subst (λ k. Loaded a m.message.from k) (sym mine) loaded)
 
       told-body : (b : Body) → Says a m.message.from m.message.my_ref m.message.your_ref b →
-          reply.Event User (action_of b) m.message.my_ref m.message.your_ref (came y t m b).1 ≡ told_by → Loaded a x.recipient x.id
-      unfolding came
+          reply.Event User (action_of b) m.message.my_ref m.message.your_ref (delivered y t m b).1 ≡ told_by → Loaded a x.recipient x.id
+      unfolding delivered
       told-body (body.DataSave file) says q = absurd cc
       told-body (body.DataSaveAck file) says q = absurd cc
       told-body (body.DataLoad file) says q = absurd cc

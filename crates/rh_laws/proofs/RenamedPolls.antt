@@ -7,7 +7,7 @@ use Rattle.rh_laws.proofs.Common.{found_or, Split, Slot, Flex, flex_address, hea
 use Rattle.rh_laws.proofs.Common.{post_poll, Desk, Task, Scrap, next_ref, free_pages, task_at, with_task, with_slot, with_sending, with_taking}
 use Rattle.rh_laws.proofs.Common.{with_delivered, send_letter, buffer_at, written_in, Handled, transmit, refused, fail_sending, save_scrap, send_with}
 use Rattle.rh_laws.proofs.Common.{perform_send, without_buffer, taking_ended, accept, append, appended, fetch_more, took, ask, ack_back, loaded}
-use Rattle.rh_laws.proofs.Common.{load_file, take_with, perform_take, answers_none, came, came_back, handled, event, poll_taken, poll, Follows}
+use Rattle.rh_laws.proofs.Common.{load_file, take_with, perform_take, answers_none, delivered, bounced_to, handled, event, poll_taken, poll, Follows}
 use Rattle.rh_laws.proofs.Common.{follows-then, follows-equal, follows-as}
 use Rattle.rh_defs.specs.declared.message.Body.TheVariants.{DataSave, DataSaveAck, DataLoad, DataLoadAck, RamFetch, RamTransmit}
 use Rattle.rh_defs.specs.declared.reply.Outcome.TheVariants as outcome
@@ -322,8 +322,8 @@ module _ (f : ℕ → ℕ) (zero-is : f 0 ≡ 0) where
 
   -- ---- one message
 
-  came-renamed : (d : Desk) (t : Task) (m : Parcel) (body : Body) → Same (came d t m body) (came (renamed f d) (renamed_task f t) m body)
-  unfolding came
+  came-renamed : (d : Desk) (t : Task) (m : Parcel) (body : Body) → Same (delivered d t m body) (delivered (renamed f d) (renamed_task f t) m body)
+  unfolding delivered
   came-renamed d t m (DataSave file) = perform_take-renamed d t _
   came-renamed d t m (DataSaveAck file) = perform_send-renamed d t _
   came-renamed d t m (DataLoad file) = perform_take-renamed d t _
@@ -332,8 +332,8 @@ module _ (f : ℕ → ℕ) (zero-is : f 0 ≡ 0) where
       chosen-both (By (renamed_with f)) (answers_none t.manner) _ _ _ _ refl (perform_send-renamed d t _)
   came-renamed d t m (RamTransmit buffer n) = perform_take-renamed d t _
 
-  came_back-renamed : (d : Desk) (t : Task) (m : Parcel) (body : Body) → Same (came_back d t m body) (came_back (renamed f d) (renamed_task f t) m body)
-  unfolding came_back
+  came_back-renamed : (d : Desk) (t : Task) (m : Parcel) (body : Body) → Same (bounced_to d t m body) (bounced_to (renamed f d) (renamed_task f t) m body)
+  unfolding bounced_to
   came_back-renamed d t m (DataSave file) = fail_sending-renamed d t _
   came_back-renamed d t m (DataSaveAck file) = ack_back-renamed d t _
   came_back-renamed d t m (DataLoad file) = fail_sending-renamed d t _

@@ -1,6 +1,7 @@
 -- Each message that a poll handles leaves all slots with no bytes but those that their tasks may show.
 use Rattle.rh_laws.proofs.Common.{[], accept, ack_back, Acknowledge, all-mono, AllByRecursion, and_left, any-grant, append, Append, append-all, appended, arith}
-use Rattle.rh_laws.proofs.Common.{as_returned, ask, Asked, Body, came, came_back, chosen, Claim, cond, Desk, drop, eqb_tells, EventCode, fail_sending, false}
+use Rattle.rh_laws.proofs.Common.{as_returned, ask, Asked, Body, delivered, bounced_to, chosen}
+use Rattle.rh_laws.proofs.Common.{Claim, cond, Desk, drop, eqb_tells, EventCode, fail_sending, false}
 use Rattle.rh_laws.proofs.Common.{Fetch, fetch_more, first_is, Flex, free_pages, granted, granted-both, granted-past, granted-then, granted-with, handled}
 use Rattle.rh_laws.proofs.Common.{Handled, Has, IfSome, ignored, Incoming, inl, inr, is_equal, is_found, length, Letter, List, load_file, loaded, LoadFile}
 use Rattle.rh_laws.proofs.Common.{Next, next_ref, None, NoTask, Ok, OnGrant, Option, or_else-keeps, Outcome, Outgoing, Parcel, Part, perform_send, perform_take}
@@ -318,8 +319,8 @@ module _ (may : MayShow) (t : Task) (own : HasOwn may t) where
     Filed m = (file : Scrap) → d.scrap ≡ Some file → file.load ≡ m.message.my_ref → AreOnly (may h) file.bytes
 
     module _ (m : Parcel) (offered : Offered) (refs : HasRefs d) where
-      came-own : (b : Body) → Filed m → Leaves may (came d t m b)
-      unfolding came
+      came-own : (b : Body) → Filed m → Leaves may (delivered d t m b)
+      unfolding delivered
       came-own (body.DataSave file) filed = perform_take-own _ (save-does (Takes d) t.taking _ _ _ tt)
       came-own (body.DataSaveAck file) filed =
           perform_send-own d g _ (open-does (Sends d) t.sending (sender.file_for m.message.from m.message.my_ref) _ (λ x has p.
@@ -332,8 +333,8 @@ module _ (may : MayShow) (t : Task) (own : HasOwn may t) where
       came-own (body.RamTransmit buffer n) filed =
           perform_take-own _ (transmit-does (Takes d) t.taking _ _ _ _ _ _ (λ x has. tt) (λ x e has. tt))
 
-      came_back-own : (b : Body) → Leaves may (came_back d t m b)
-      unfolding came_back
+      came_back-own : (b : Body) → Leaves may (bounced_to d t m b)
+      unfolding bounced_to
       came_back-own (body.DataSaveAck file) = ack_back-own d g _
       came_back-own (body.DataLoadAck file) = ignored-own d g
       came_back-own (body.RamFetch buffer amount) =

@@ -8,12 +8,12 @@ ghost use Rattle.rh_lines.specs.Readers.{IsNoneOf};
 
 use crate::counts::counted;
 use crate::forms::{delta_at, number_at};
-use crate::words::Words;
+use crate::words::LineWords;
 use rh_defs::sizes::{FIRST_MADE, LAST_AREA, MAX_PAGES};
 use rh_defs::{Command, LineFault, Question};
 
 /// Puts the command of a line about areas of pages in its place; None where the line begins with none of their words.
-pub fn read_command(words: &Words<'_>, command: &mut Command) -> Option<Result<(), LineFault>>
+pub fn read_command(words: &LineWords<'_>, command: &mut Command) -> Option<Result<(), LineFault>>
     ensures means { IfSome result (λ read. when_placed read command.new ≡ command_of words.now) }
     ensures in_range { IfSome result (λ read. OnOk read (IsTrue (in_range command.new))) }
     ensures kept { IfSome result (λ read. OnErr read (command.new ≡ command.old)) }
@@ -33,7 +33,7 @@ pub fn read_command(words: &Words<'_>, command: &mut Command) -> Option<Result<(
 /// `area K DELTA`.
 #[tactic(auto, unfolding(crate::specs::Placed::reading))]
 #[inline(always)]
-fn area_of(words: &Words<'_>, command: &mut Command) -> Result<(), LineFault>
+fn area_of(words: &LineWords<'_>, command: &mut Command) -> Result<(), LineFault>
     ensures means { when_placed result command.new ≡ command_by (codes "area") words.now }
     ensures in_range { OnOk result (IsTrue (in_range command.new)) }
     ensures kept { OnErr result (command.new ≡ command.old) }
@@ -48,7 +48,7 @@ fn area_of(words: &Words<'_>, command: &mut Command) -> Result<(), LineFault>
 /// `make MAX`.
 #[tactic(auto, unfolding(crate::specs::Placed::reading))]
 #[inline(always)]
-fn make_of(words: &Words<'_>, command: &mut Command) -> Result<(), LineFault>
+fn make_of(words: &LineWords<'_>, command: &mut Command) -> Result<(), LineFault>
     ensures means { when_placed result command.new ≡ command_by (codes "make") words.now }
     ensures in_range { OnOk result (IsTrue (in_range command.new)) }
     ensures kept { OnErr result (command.new ≡ command.old) }
@@ -62,7 +62,7 @@ fn make_of(words: &Words<'_>, command: &mut Command) -> Result<(), LineFault>
 /// `remove K`.
 #[tactic(auto, unfolding(crate::specs::Placed::reading))]
 #[inline(always)]
-fn remove_of(words: &Words<'_>, command: &mut Command) -> Result<(), LineFault>
+fn remove_of(words: &LineWords<'_>, command: &mut Command) -> Result<(), LineFault>
     ensures means { when_placed result command.new ≡ command_by (codes "remove") words.now }
     ensures in_range { OnOk result (IsTrue (in_range command.new)) }
     ensures kept { OnErr result (command.new ≡ command.old) }
@@ -76,7 +76,7 @@ fn remove_of(words: &Words<'_>, command: &mut Command) -> Result<(), LineFault>
 /// `areas`.
 #[tactic(auto, unfolding(crate::specs::Placed::reading))]
 #[inline(always)]
-fn areas_of(words: &Words<'_>, command: &mut Command) -> Result<(), LineFault>
+fn areas_of(words: &LineWords<'_>, command: &mut Command) -> Result<(), LineFault>
     ensures means { when_placed result command.new ≡ command_by (codes "areas") words.now }
     ensures in_range { OnOk result (IsTrue (in_range command.new)) }
     ensures kept { OnErr result (command.new ≡ command.old) }

@@ -8,12 +8,12 @@ ghost use Rattle.rh_lines.specs.Readers.{IsNoneOf};
 
 use crate::counts::counted;
 use crate::forms::{anchor_at, bytes_at, delta_at, name_at, size_at};
-use crate::words::Words;
+use crate::words::LineWords;
 use arrayvec::ArrayVec;
 use rh_defs::{Bytes, Command, LineFault, Question};
 
 /// Puts the command of a line about flex blocks in its place; None where the line begins with none of their words.
-pub fn read_command(words: &Words<'_>, command: &mut Command) -> Option<Result<(), LineFault>>
+pub fn read_command(words: &LineWords<'_>, command: &mut Command) -> Option<Result<(), LineFault>>
     ensures means { IfSome result (λ read. when_placed read command.new ≡ command_of words.now) }
     ensures in_range { IfSome result (λ read. OnOk read (IsTrue (in_range command.new))) }
     ensures kept { IfSome result (λ read. OnErr read (command.new ≡ command.old)) }
@@ -38,7 +38,7 @@ pub fn read_command(words: &Words<'_>, command: &mut Command) -> Option<Result<(
 /// `alloc NAME A N`.
 #[tactic(auto, unfolding(crate::specs::Placed::reading))]
 #[inline(always)]
-fn alloc_of(words: &Words<'_>, command: &mut Command) -> Result<(), LineFault>
+fn alloc_of(words: &LineWords<'_>, command: &mut Command) -> Result<(), LineFault>
     ensures means { when_placed result command.new ≡ command_by (codes "alloc") words.now }
     ensures in_range { OnOk result (IsTrue (in_range command.new)) }
     ensures kept { OnErr result (command.new ≡ command.old) }
@@ -54,7 +54,7 @@ fn alloc_of(words: &Words<'_>, command: &mut Command) -> Result<(), LineFault>
 /// `load NAME A FILE`.
 #[tactic(auto, unfolding(crate::specs::Placed::reading))]
 #[inline(always)]
-fn load_of(words: &Words<'_>, command: &mut Command) -> Result<(), LineFault>
+fn load_of(words: &LineWords<'_>, command: &mut Command) -> Result<(), LineFault>
     ensures means { when_placed result command.new ≡ command_by (codes "load") words.now }
     ensures in_range { OnOk result (IsTrue (in_range command.new)) }
     ensures kept { OnErr result (command.new ≡ command.old) }
@@ -70,7 +70,7 @@ fn load_of(words: &Words<'_>, command: &mut Command) -> Result<(), LineFault>
 /// `put NAME A OFF HEX`.
 #[tactic(auto, unfolding(crate::specs::Placed::reading))]
 #[inline(always)]
-fn put_of(words: &Words<'_>, command: &mut Command) -> Result<(), LineFault>
+fn put_of(words: &LineWords<'_>, command: &mut Command) -> Result<(), LineFault>
     ensures means { when_placed result command.new ≡ command_by (codes "put") words.now }
     ensures in_range { OnOk result (IsTrue (in_range command.new)) }
     ensures kept { OnErr result (command.new ≡ command.old) }
@@ -93,7 +93,7 @@ fn put_of(words: &Words<'_>, command: &mut Command) -> Result<(), LineFault>
 /// `free NAME A`.
 #[tactic(auto, unfolding(crate::specs::Placed::reading))]
 #[inline(always)]
-fn free_of(words: &Words<'_>, command: &mut Command) -> Result<(), LineFault>
+fn free_of(words: &LineWords<'_>, command: &mut Command) -> Result<(), LineFault>
     ensures means { when_placed result command.new ≡ command_by (codes "free") words.now }
     ensures in_range { OnOk result (IsTrue (in_range command.new)) }
     ensures kept { OnErr result (command.new ≡ command.old) }
@@ -108,7 +108,7 @@ fn free_of(words: &Words<'_>, command: &mut Command) -> Result<(), LineFault>
 /// `extend NAME A N`.
 #[tactic(auto, unfolding(crate::specs::Placed::reading))]
 #[inline(always)]
-fn extend_of(words: &Words<'_>, command: &mut Command) -> Result<(), LineFault>
+fn extend_of(words: &LineWords<'_>, command: &mut Command) -> Result<(), LineFault>
     ensures means { when_placed result command.new ≡ command_by (codes "extend") words.now }
     ensures in_range { OnOk result (IsTrue (in_range command.new)) }
     ensures kept { OnErr result (command.new ≡ command.old) }
@@ -124,7 +124,7 @@ fn extend_of(words: &Words<'_>, command: &mut Command) -> Result<(), LineFault>
 /// `mid NAME A AT BY`.
 #[tactic(auto, unfolding(crate::specs::Placed::reading))]
 #[inline(always)]
-fn mid_of(words: &Words<'_>, command: &mut Command) -> Result<(), LineFault>
+fn mid_of(words: &LineWords<'_>, command: &mut Command) -> Result<(), LineFault>
     ensures means { when_placed result command.new ≡ command_by (codes "mid") words.now }
     ensures in_range { OnOk result (IsTrue (in_range command.new)) }
     ensures kept { OnErr result (command.new ≡ command.old) }
@@ -146,7 +146,7 @@ fn mid_of(words: &Words<'_>, command: &mut Command) -> Result<(), LineFault>
 /// `show NAME A`.
 #[tactic(auto, unfolding(crate::specs::Placed::reading))]
 #[inline(always)]
-fn show_of(words: &Words<'_>, command: &mut Command) -> Result<(), LineFault>
+fn show_of(words: &LineWords<'_>, command: &mut Command) -> Result<(), LineFault>
     ensures means { when_placed result command.new ≡ command_by (codes "show") words.now }
     ensures in_range { OnOk result (IsTrue (in_range command.new)) }
     ensures kept { OnErr result (command.new ≡ command.old) }
@@ -161,7 +161,7 @@ fn show_of(words: &Words<'_>, command: &mut Command) -> Result<(), LineFault>
 /// `blocks NAME`.
 #[tactic(auto, unfolding(crate::specs::Placed::reading))]
 #[inline(always)]
-fn blocks_of(words: &Words<'_>, command: &mut Command) -> Result<(), LineFault>
+fn blocks_of(words: &LineWords<'_>, command: &mut Command) -> Result<(), LineFault>
     ensures means { when_placed result command.new ≡ command_by (codes "blocks") words.now }
     ensures in_range { OnOk result (IsTrue (in_range command.new)) }
     ensures kept { OnErr result (command.new ≡ command.old) }

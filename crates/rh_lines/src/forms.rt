@@ -14,7 +14,7 @@ ghost use Rattle.rh_lines.specs.Placed.{when_placed};
 ghost use Rattle.rh_lines.specs.declared.forms.TheConstants.{MOST_DIGITS};
 
 use crate::hexadecimal::{MOST_HEX_DIGITS, are_hex_digits, hex_number};
-use crate::words::Words;
+use crate::words::LineWords;
 use arrayvec::ArrayVec;
 use rh_defs::sizes::{ANCHORS, GREATEST_NUMBER, MOST_BYTES};
 use rh_defs::{Anchor, Leaf, LineFault, Name};
@@ -25,7 +25,7 @@ const MOST_DIGITS: usize = 10;
 /// Word `n` as a name: an ASCII letter, and then up to 11 ASCII letters or digits.
 #[tactic(auto, unfolding(rh_defs::specs::Line::name_at))]
 #[inline(always)]
-pub fn name_at(words: &Words<'_>, n: u8) -> Result<Name, LineFault>
+pub fn name_at(words: &LineWords<'_>, n: u8) -> Result<Name, LineFault>
     requires { 0 < n }
     ensures means { result ≡ name_at words.now n }
     ensures form { IfOk result (λ name. IsTrue (is_name name)) }
@@ -37,7 +37,7 @@ pub fn name_at(words: &Words<'_>, n: u8) -> Result<Name, LineFault>
 }
 
 /// Word `n` as an anchor, 0 to 63.
-pub fn anchor_at(words: &Words<'_>, n: u8) -> Result<Anchor, LineFault>
+pub fn anchor_at(words: &LineWords<'_>, n: u8) -> Result<Anchor, LineFault>
     requires { 0 < n }
     ensures means { result ≡ number_at words.now n 0 (ANCHORS - 1) }
     ensures form { IfOk result (λ anchor. IsTrue (is_anchor anchor)) }
@@ -47,7 +47,7 @@ pub fn anchor_at(words: &Words<'_>, n: u8) -> Result<Anchor, LineFault>
 }
 
 /// Word `n` as a size or an offset, 0 to 2,147,483,647.
-pub fn size_at(words: &Words<'_>, n: u8) -> Result<u32, LineFault>
+pub fn size_at(words: &LineWords<'_>, n: u8) -> Result<u32, LineFault>
     requires { 0 < n }
     ensures means { result ≡ number_at words.now n 0 GREATEST_NUMBER }
     ensures form { IfOk result (λ size. IsTrue (is_number size)) }
@@ -57,7 +57,7 @@ pub fn size_at(words: &Words<'_>, n: u8) -> Result<u32, LineFault>
 
 /// Word `n` as a decimal number of 1 to 10 digits, from `low` to `high`.
 #[tactic(auto, unfolding(rh_defs::specs::Line::number_at))]
-pub fn number_at(words: &Words<'_>, n: u8, low: u32, high: u32) -> Result<u32, LineFault>
+pub fn number_at(words: &LineWords<'_>, n: u8, low: u32, high: u32) -> Result<u32, LineFault>
     requires { 0 < n }
     ensures means { result ≡ number_at words.now n low high }
     ensures range { IfOk result (λ number. (low ≤ number) × (number ≤ high)) }
@@ -70,7 +70,7 @@ pub fn number_at(words: &Words<'_>, n: u8, low: u32, high: u32) -> Result<u32, L
 
 /// Word `n` as a decimal number with `-` before it or not, of a magnitude up to 2,147,483,647.
 #[tactic(auto, unfolding(rh_defs::specs::Line::delta_at))]
-pub fn delta_at(words: &Words<'_>, n: u8) -> Result<i32, LineFault>
+pub fn delta_at(words: &LineWords<'_>, n: u8) -> Result<i32, LineFault>
     requires { 0 < n }
     ensures means { result ≡ delta_at words.now n }
     ensures form { IfOk result (λ delta. IsTrue (is_delta delta)) }
@@ -122,7 +122,7 @@ fn decimal(word: &[u8]) -> Option<u64>
 /// Word `n` as an address: `&`, and 1 to 8 hexadecimal digits of either case.
 #[tactic(auto, unfolding(rh_defs::specs::Line::address_at, rh_defs::specs::Line::is_address))]
 #[inline(always)]
-pub fn address_at(words: &Words<'_>, n: u8) -> Result<u32, LineFault>
+pub fn address_at(words: &LineWords<'_>, n: u8) -> Result<u32, LineFault>
     requires { 0 < n }
     ensures { result ≡ address_at words.now n }
 {
@@ -137,7 +137,7 @@ pub fn address_at(words: &Words<'_>, n: u8) -> Result<u32, LineFault>
 
 /// Word `n` as a leafname: 1 to 10 bytes from &21 to &7E.
 #[tactic(auto, unfolding(rh_defs::specs::Line::leaf_at))]
-pub fn leaf_at(words: &Words<'_>, n: u8) -> Result<Leaf, LineFault>
+pub fn leaf_at(words: &LineWords<'_>, n: u8) -> Result<Leaf, LineFault>
     requires { 0 < n }
     ensures means { result ≡ leaf_at words.now n }
     ensures form { IfOk result (λ leaf. IsTrue (is_leaf leaf)) }
@@ -159,7 +159,12 @@ fn leaf_of(word: &[u8]) -> Option<Leaf>
 
 /// Word `n` as one of two words: whether it is the first.
 #[tactic(auto, unfolding(rh_defs::specs::Line::choice_at))]
-pub fn choice_at(words: &Words<'_>, n: u8, first: &[u8], second: &[u8]) -> Result<bool, LineFault>
+pub fn choice_at(
+    words: &LineWords<'_>,
+    n: u8,
+    first: &[u8],
+    second: &[u8],
+) -> Result<bool, LineFault>
     requires { 0 < n }
     ensures { result ≡ choice_at words.now n first.now second.now }
 {
@@ -177,7 +182,7 @@ pub fn choice_at(words: &Words<'_>, n: u8, first: &[u8], second: &[u8]) -> Resul
 /// list.
 #[tactic(auto, unfolding(rh_defs::specs::Line::bytes_read_at))]
 pub fn bytes_at(
-    words: &Words<'_>,
+    words: &LineWords<'_>,
     n: u8,
     bytes: &mut ArrayVec<u8, MOST_BYTES>,
 ) -> Result<(), LineFault>

@@ -8,12 +8,12 @@ ghost use Rattle.rh_lines.specs.Readers.{IsNoneOf};
 
 use crate::counts::counted;
 use crate::forms::{address_at, choice_at, delta_at, name_at, size_at};
-use crate::words::Words;
+use crate::words::LineWords;
 use rh_defs::{Command, LineFault, Question};
 
 /// Puts the command of a line about the blocks of heaps in its place; None where the line begins with none of their
 /// words.
-pub fn read_command(words: &Words<'_>, command: &mut Command) -> Option<Result<(), LineFault>>
+pub fn read_command(words: &LineWords<'_>, command: &mut Command) -> Option<Result<(), LineFault>>
     ensures means { IfSome result (λ read. when_placed read command.new ≡ command_of words.now) }
     ensures in_range { IfSome result (λ read. OnOk read (IsTrue (in_range command.new))) }
     ensures kept { IfSome result (λ read. OnErr read (command.new ≡ command.old)) }
@@ -35,7 +35,7 @@ pub fn read_command(words: &Words<'_>, command: &mut Command) -> Option<Result<(
 /// `claim NAME N`.
 #[tactic(auto, unfolding(crate::specs::Placed::reading))]
 #[inline(always)]
-fn claim_of(words: &Words<'_>, command: &mut Command) -> Result<(), LineFault>
+fn claim_of(words: &LineWords<'_>, command: &mut Command) -> Result<(), LineFault>
     ensures means { when_placed result command.new ≡ command_by (codes "claim") words.now }
     ensures in_range { OnOk result (IsTrue (in_range command.new)) }
     ensures kept { OnErr result (command.new ≡ command.old) }
@@ -50,7 +50,7 @@ fn claim_of(words: &Words<'_>, command: &mut Command) -> Result<(), LineFault>
 /// `release NAME ADDR`.
 #[tactic(auto, unfolding(crate::specs::Placed::reading))]
 #[inline(always)]
-fn release_of(words: &Words<'_>, command: &mut Command) -> Result<(), LineFault>
+fn release_of(words: &LineWords<'_>, command: &mut Command) -> Result<(), LineFault>
     ensures means { when_placed result command.new ≡ command_by (codes "release") words.now }
     ensures in_range { OnOk result (IsTrue (in_range command.new)) }
     ensures kept { OnErr result (command.new ≡ command.old) }
@@ -65,7 +65,7 @@ fn release_of(words: &Words<'_>, command: &mut Command) -> Result<(), LineFault>
 /// `resize NAME ADDR DELTA`.
 #[tactic(auto, unfolding(crate::specs::Placed::reading))]
 #[inline(always)]
-fn resize_of(words: &Words<'_>, command: &mut Command) -> Result<(), LineFault>
+fn resize_of(words: &LineWords<'_>, command: &mut Command) -> Result<(), LineFault>
     ensures means { when_placed result command.new ≡ command_by (codes "resize") words.now }
     ensures in_range { OnOk result (IsTrue (in_range command.new)) }
     ensures kept { OnErr result (command.new ≡ command.old) }
@@ -85,7 +85,7 @@ fn resize_of(words: &Words<'_>, command: &mut Command) -> Result<(), LineFault>
 /// `budge NAME on, or off`.
 #[tactic(auto, unfolding(crate::specs::Placed::reading))]
 #[inline(always)]
-fn budge_of(words: &Words<'_>, command: &mut Command) -> Result<(), LineFault>
+fn budge_of(words: &LineWords<'_>, command: &mut Command) -> Result<(), LineFault>
     ensures means { when_placed result command.new ≡ command_by (codes "budge") words.now }
     ensures in_range { OnOk result (IsTrue (in_range command.new)) }
     ensures kept { OnErr result (command.new ≡ command.old) }
@@ -100,7 +100,7 @@ fn budge_of(words: &Words<'_>, command: &mut Command) -> Result<(), LineFault>
 /// `heap NAME`.
 #[tactic(auto, unfolding(crate::specs::Placed::reading))]
 #[inline(always)]
-fn heap_of(words: &Words<'_>, command: &mut Command) -> Result<(), LineFault>
+fn heap_of(words: &LineWords<'_>, command: &mut Command) -> Result<(), LineFault>
     ensures means { when_placed result command.new ≡ command_by (codes "heap") words.now }
     ensures in_range { OnOk result (IsTrue (in_range command.new)) }
     ensures kept { OnErr result (command.new ≡ command.old) }
@@ -114,7 +114,7 @@ fn heap_of(words: &Words<'_>, command: &mut Command) -> Result<(), LineFault>
 /// `rma claim N`, `rma free ADDR` or `rma resize ADDR DELTA`.
 #[tactic(auto, unfolding(crate::specs::Placed::reading))]
 #[inline(always)]
-fn rma_of(words: &Words<'_>, command: &mut Command) -> Result<(), LineFault>
+fn rma_of(words: &LineWords<'_>, command: &mut Command) -> Result<(), LineFault>
     ensures means { when_placed result command.new ≡ command_by (codes "rma") words.now }
     ensures in_range { OnOk result (IsTrue (in_range command.new)) }
     ensures kept { OnErr result (command.new ≡ command.old) }

@@ -5,7 +5,7 @@ ghost use Rattle.rh_defs.specs.Range.{in_range};
 ghost use Rattle.rh_defs.specs.Line.{command_of, is_skipped, line_means};
 ghost use Rattle.rh_lines.specs.Placed.{if_placed, when_placed, OnFound, OnNone};
 
-use crate::words::Words;
+use crate::words::LineWords;
 use crate::{areas, flex, heaps, tasks};
 use rh_defs::sizes::LONGEST_LINE;
 use rh_defs::{Command, LineFault, Question};
@@ -36,7 +36,7 @@ pub fn read_line(line: &[u8], command: &mut Command) -> Result<bool, LineFault>
     if line.len() > LONGEST_LINE {
         return Err(LineFault::TooLong);
     }
-    let mut words = Words::new();
+    let mut words = LineWords::new();
     words.find(line);
     if is_skipped(&words) {
         return Ok(false);
@@ -45,7 +45,7 @@ pub fn read_line(line: &[u8], command: &mut Command) -> Result<bool, LineFault>
     Ok(true)
 }
 
-fn is_skipped(words: &Words<'_>) -> bool
+fn is_skipped(words: &LineWords<'_>) -> bool
     ensures { result ≡ is_skipped words.now }
 {
     match words.word(1) {
@@ -55,7 +55,7 @@ fn is_skipped(words: &Words<'_>) -> bool
 }
 
 /// Puts the command of a line in its place, as the reader of its first word has it.
-fn put_command(words: &Words<'_>, command: &mut Command) -> Result<(), LineFault>
+fn put_command(words: &LineWords<'_>, command: &mut Command) -> Result<(), LineFault>
     ensures means { when_placed result command.new ≡ command_of words.now }
     ensures in_range { OnOk result (IsTrue (in_range command.new)) }
     ensures kept { OnErr result (command.new ≡ command.old) }

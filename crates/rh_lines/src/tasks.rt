@@ -9,13 +9,13 @@ ghost use Rattle.rh_lines.specs.Readers.{IsNoneOf};
 
 use crate::counts::{counted, counted_from};
 use crate::forms::{anchor_at, choice_at, leaf_at, name_at, number_at};
-use crate::words::Words;
+use crate::words::LineWords;
 use rh_defs::sizes::LONGEST_BUFFER;
 use rh_defs::{Command, LineFault, Manner, Question, Ref};
 
 /// Puts the command of a line about tasks and their transfers in its place; None where the line begins with none of
 /// their words.
-pub fn read_command(words: &Words<'_>, command: &mut Command) -> Option<Result<(), LineFault>>
+pub fn read_command(words: &LineWords<'_>, command: &mut Command) -> Option<Result<(), LineFault>>
     ensures means { IfSome result (λ read. when_placed read command.new ≡ command_of words.now) }
     ensures in_range { IfSome result (λ read. OnOk read (IsTrue (in_range command.new))) }
     ensures kept { IfSome result (λ read. OnErr read (command.new ≡ command.old)) }
@@ -39,7 +39,7 @@ pub fn read_command(words: &Words<'_>, command: &mut Command) -> Option<Result<(
 /// `task NAME BUF`, with `deaf` or `file` behind it or not.
 #[tactic(auto, unfolding(crate::specs::Placed::reading))]
 #[inline(always)]
-fn task_of(words: &Words<'_>, command: &mut Command) -> Result<(), LineFault>
+fn task_of(words: &LineWords<'_>, command: &mut Command) -> Result<(), LineFault>
     ensures means { when_placed result command.new ≡ command_by (codes "task") words.now }
     ensures in_range { OnOk result (IsTrue (in_range command.new)) }
     ensures kept { OnErr result (command.new ≡ command.old) }
@@ -58,7 +58,7 @@ fn task_of(words: &Words<'_>, command: &mut Command) -> Result<(), LineFault>
 
 /// Whether a task is deaf, or one of files, where a fourth word says so.
 #[tactic(auto, unfolding(rh_defs::specs::Chain::computing))]
-fn deaf_at(words: &Words<'_>) -> Result<Option<bool>, LineFault>
+fn deaf_at(words: &LineWords<'_>) -> Result<Option<bool>, LineFault>
     ensures { result ≡ value_at (Maybe (Choice (codes "deaf") (codes "file"))) words.now 4 }
 {
     if words.count() == 3 {
@@ -81,7 +81,7 @@ fn manner_of(deaf: Option<bool>) -> Manner
 /// `kill NAME`.
 #[tactic(auto, unfolding(crate::specs::Placed::reading))]
 #[inline(always)]
-fn kill_of(words: &Words<'_>, command: &mut Command) -> Result<(), LineFault>
+fn kill_of(words: &LineWords<'_>, command: &mut Command) -> Result<(), LineFault>
     ensures means { when_placed result command.new ≡ command_by (codes "kill") words.now }
     ensures in_range { OnOk result (IsTrue (in_range command.new)) }
     ensures kept { OnErr result (command.new ≡ command.old) }
@@ -95,7 +95,7 @@ fn kill_of(words: &Words<'_>, command: &mut Command) -> Result<(), LineFault>
 /// `save NAME A TO LEAF`.
 #[tactic(auto, unfolding(crate::specs::Placed::reading))]
 #[inline(always)]
-fn save_of(words: &Words<'_>, command: &mut Command) -> Result<(), LineFault>
+fn save_of(words: &LineWords<'_>, command: &mut Command) -> Result<(), LineFault>
     ensures means { when_placed result command.new ≡ command_by (codes "save") words.now }
     ensures in_range { OnOk result (IsTrue (in_range command.new)) }
     ensures kept { OnErr result (command.new ≡ command.old) }
@@ -117,7 +117,7 @@ fn save_of(words: &Words<'_>, command: &mut Command) -> Result<(), LineFault>
 /// `poll NAME`.
 #[tactic(auto, unfolding(crate::specs::Placed::reading))]
 #[inline(always)]
-fn poll_of(words: &Words<'_>, command: &mut Command) -> Result<(), LineFault>
+fn poll_of(words: &LineWords<'_>, command: &mut Command) -> Result<(), LineFault>
     ensures means { when_placed result command.new ≡ command_by (codes "poll") words.now }
     ensures in_range { OnOk result (IsTrue (in_range command.new)) }
     ensures kept { OnErr result (command.new ≡ command.old) }
@@ -131,7 +131,7 @@ fn poll_of(words: &Words<'_>, command: &mut Command) -> Result<(), LineFault>
 /// `repeat NAME`.
 #[tactic(auto, unfolding(crate::specs::Placed::reading))]
 #[inline(always)]
-fn repeat_of(words: &Words<'_>, command: &mut Command) -> Result<(), LineFault>
+fn repeat_of(words: &LineWords<'_>, command: &mut Command) -> Result<(), LineFault>
     ensures means { when_placed result command.new ≡ command_by (codes "repeat") words.now }
     ensures in_range { OnOk result (IsTrue (in_range command.new)) }
     ensures kept { OnErr result (command.new ≡ command.old) }
@@ -145,7 +145,7 @@ fn repeat_of(words: &Words<'_>, command: &mut Command) -> Result<(), LineFault>
 /// `status NAME`.
 #[tactic(auto, unfolding(crate::specs::Placed::reading))]
 #[inline(always)]
-fn status_of(words: &Words<'_>, command: &mut Command) -> Result<(), LineFault>
+fn status_of(words: &LineWords<'_>, command: &mut Command) -> Result<(), LineFault>
     ensures means { when_placed result command.new ≡ command_by (codes "status") words.now }
     ensures in_range { OnOk result (IsTrue (in_range command.new)) }
     ensures kept { OnErr result (command.new ≡ command.old) }
@@ -159,7 +159,7 @@ fn status_of(words: &Words<'_>, command: &mut Command) -> Result<(), LineFault>
 /// `cancel NAME in`, or `out`, with an ID behind it or not.
 #[tactic(auto, unfolding(crate::specs::Placed::reading))]
 #[inline(always)]
-fn cancel_of(words: &Words<'_>, command: &mut Command) -> Result<(), LineFault>
+fn cancel_of(words: &LineWords<'_>, command: &mut Command) -> Result<(), LineFault>
     ensures means { when_placed result command.new ≡ command_by (codes "cancel") words.now }
     ensures in_range { OnOk result (IsTrue (in_range command.new)) }
     ensures kept { OnErr result (command.new ≡ command.old) }
@@ -180,7 +180,7 @@ fn cancel_of(words: &Words<'_>, command: &mut Command) -> Result<(), LineFault>
 /// The id of a cancel, which a fourth word may give.
 #[inline(always)]
 #[tactic(auto, unfolding(rh_defs::specs::Chain::computing))]
-fn id_of(words: &Words<'_>) -> Result<Option<Ref>, LineFault>
+fn id_of(words: &LineWords<'_>) -> Result<Option<Ref>, LineFault>
     ensures means { result ≡ value_at (Maybe RefForm) words.now 4 }
     ensures form { IfOk result (λ id. IsTrue (is_of (Maybe RefForm) id)) }
 {

@@ -2,8 +2,8 @@
 
 ghost use Rattle.std.specs.Prelude.{◌≡◌, ◌≤◌, ◌+◌, ◌-◌, ◌^◌, ◌&&◌, ◌++◌, [], false, drop, length, min, nat_lt, take};
 
+use crate::ghost_bytes::GhostBytes;
 use crate::sink::{Sink, WriteFailed};
-use crate::unseen::Unseen;
 
 /// A text in lent bytes, from their first one on. No write of it fails: what finds no room is counted, and goes
 /// nowhere.
@@ -15,8 +15,8 @@ pub struct WholeText<'a> {
     /// So many bytes were offered.
     count: usize,
     // the bytes as they were, and what found no room in them
-    before: Unseen,
-    beyond: Unseen,
+    before: GhostBytes,
+    beyond: GhostBytes,
     ghost fits: { taken ≤ length bytes.now },
     ghost same: { length bytes.now ≡ length before.bytes },
     // what wasn't written yet is as it was
@@ -35,14 +35,14 @@ impl<'a> WholeText<'a> {
         ensures before { before_of result ≡ bytes.entry.now }
         ensures text { whole_text result ≡ [] }
     {
-        let mut before = Unseen::new();
+        let mut before = GhostBytes::new();
         before.note(bytes);
         WholeText {
             bytes,
             taken: 0,
             count: 0,
             before,
-            beyond: Unseen::new(),
+            beyond: GhostBytes::new(),
         }
     }
 

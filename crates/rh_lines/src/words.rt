@@ -20,11 +20,11 @@ const FEW: usize = 24;
 
 /// The words of a line, up to the sixth.
 #[derive(Drop)]
-pub struct Words<'a> {
+pub struct LineWords<'a> {
     found: ArrayVec<&'a [u8], MOST_WORDS>,
 }
 
-impl<'a> Model for Words<'a> {
+impl<'a> Model for LineWords<'a> {
     ghost use Rattle.std.specs.Prelude.{◌≤◌, ℕ, List, map, length, All};
     ghost use Rattle.rh_defs.specs.declared.sizes.TheConstants.{LONGEST_LINE};
 
@@ -35,13 +35,13 @@ impl<'a> Model for Words<'a> {
     ghost invariant = { λ s. All (λ w. length w.now ≤ LONGEST_LINE) s.found.items };
 }
 
-impl<'a> Words<'a> {
+impl<'a> LineWords<'a> {
     /// No words.
     #[inline(always)]
-    pub fn new() -> Words<'a>
+    pub fn new() -> LineWords<'a>
         ensures { result ≡ [] }
     {
-        Words {
+        LineWords {
             found: ArrayVec::new(),
         }
     }

@@ -6,10 +6,10 @@ ghost use Rattle.rh_lines.specs.PenFacts.{Counts};
 ghost use Rattle.rh_lines.specs.Inner.Fronts.{TakesFront};
 ghost use Rattle.rh_lines.specs.Inner.OneProof.{one_count, one_taking};
 
+use crate::ghost_bytes::GhostBytes;
 use crate::noted_output::NotedOutput;
 use crate::pen::Pen;
 use crate::sink::{Sink, WriteFailed};
-use crate::unseen::Unseen;
 use crate::whole_text::put_at;
 
 /// A pen over a writer, which holds in lent bytes what has room there, and offers it when they are full or at the end.
@@ -23,8 +23,8 @@ pub struct WriterPen<'a, W: Sink> {
     held: usize,
     // the writer as it was, what it has taken since, and what came in vain after it had failed
     begun: NotedOutput,
-    front: Unseen,
-    back: Unseen,
+    front: GhostBytes,
+    back: GhostBytes,
     ghost taken: { Appends begun.output.taken (W.output writer.now).taken front.bytes } by { one_taking _ _ _ },
     ghost counts: { Counts begun.output.count (W.output writer.now).count front.bytes } by { one_count _ _ _ },
     ghost noted: { (W.output writer.now).failed ≡ (begun.output.failed || failed) },
@@ -51,8 +51,8 @@ impl<'a, W: Sink> WriterPen<'a, W> {
             room,
             held: 0,
             begun,
-            front: Unseen::new(),
-            back: Unseen::new(),
+            front: GhostBytes::new(),
+            back: GhostBytes::new(),
         }
     }
 

@@ -2,8 +2,8 @@
 use Rattle.std.specs.Prelude.{[], Option, Some, None}
 use Rattle.rh_figure.specs.Phrases.{Text}
 use Rattle.rh_figure.specs.Figure.{scrap_note}
-use Rattle.rh_map.specs.declared.areas.ScrapFile.{ScrapFile}
+use Rattle.rh_map.specs.declared.areas.ScrapLine.{ScrapLine}
 
-abbrev pub scrap_note_of : Option ScrapFile → Text
+abbrev pub scrap_note_of : Option ScrapLine → Text
 scrap_note_of None = []
 scrap_note_of (Some s) = scrap_note s.size s.load

@@ -18,13 +18,13 @@ use rh_lines::{Pen, Row};
 
 /// A scrap file: how many bytes it has, and the ref of its DataLoad.
 #[derive(Clone, Copy)]
-pub struct ScrapFile {
+pub struct ScrapLine {
     pub size: u32,
     pub load: Ref,
 }
 
 /// Writes the line of one of areas 0 to 5, with the numbers of its pages.
-pub fn print_fixed_area<P: Pen>(number: u32, pages: &[u16], scrap: Option<ScrapFile>, pen: &mut P)
+pub fn print_fixed_area<P: Pen>(number: u32, pages: &[u16], scrap: Option<ScrapLine>, pen: &mut P)
     requires number { number < FIXED_AREAS }
     requires few { length pages.now ≤ MAX_PAGES }
     ensures { P.offered pen.new ≡ P.offered pen.old
@@ -40,7 +40,7 @@ pub fn print_fixed_area<P: Pen>(number: u32, pages: &[u16], scrap: Option<ScrapF
 }
 
 /// What is said of one of areas 0 to 5 with these pages.
-pub fn fixed_area_note(pages: &[u16], scrap: Option<ScrapFile>) -> Row
+pub fn fixed_area_note(pages: &[u16], scrap: Option<ScrapLine>) -> Row
     requires { length pages.now ≤ MAX_PAGES }
     ensures value { result ≡ fixed_note (length pages.now) (listed_pages
         (length pages.now) pages.now) (scrap_note_of scrap) }
@@ -146,7 +146,7 @@ fn add_listed(row: &mut Row, pages: &[u16])
 }
 
 /// Adds a scrap file, if there is one.
-fn add_scrap(row: &mut Row, scrap: Option<ScrapFile>)
+fn add_scrap(row: &mut Row, scrap: Option<ScrapLine>)
     requires { length row.old + 58 ≤ ROW }
     ensures value { row.new ≡ row.old ++ scrap_note_of scrap }
     ensures few { length row.new ≤ length row.old + 58 }

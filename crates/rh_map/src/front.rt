@@ -5,7 +5,7 @@ ghost use Rattle.rh_defs.specs.Script.{ended};
 ghost use Rattle.rh_map.specs.Replies.{front_of};
 
 use memchr::memchr_iter;
-use rh_lines::{Pen, Unseen};
+use rh_lines::{GhostBytes, Pen};
 use std::marker::Model;
 
 /// So many bytes of a reply are kept.
@@ -17,7 +17,7 @@ pub struct Front {
     bytes: [u8; ROOM],
     len: usize,
     lines: usize,
-    text: Unseen,
+    text: GhostBytes,
 }
 
 impl Model for Front {
@@ -42,7 +42,7 @@ impl Front {
             bytes: [0; ROOM],
             len: 0,
             lines: 0,
-            text: Unseen::new(),
+            text: GhostBytes::new(),
         }
     }
 
@@ -66,7 +66,7 @@ impl Front {
     {
         self.len = 0;
         self.lines = 0;
-        self.text = Unseen::new();
+        self.text = GhostBytes::new();
     }
 }
 

@@ -24,7 +24,7 @@ mod transfers;
 mod who;
 
 pub use areas::{
-    ScrapFile, add_area_name, fixed_area_note, made_area_note, print_fixed_area, print_made_area,
+    ScrapLine, add_area_name, fixed_area_note, made_area_note, print_fixed_area, print_made_area,
 };
 pub use block_changes::{
     block_gone, block_new, block_resized, blocks_slide, print_block_gone, print_block_new,
@@ -58,7 +58,7 @@ pub use post_changes::{
     task_sends, task_takes,
 };
 pub use reply::{next_line, print_reply_lines};
-pub use rows::{Area, print_area};
+pub use rows::{AreaBytes, print_area};
 pub use script_lines::{has_words, is_mark, print_remark};
 pub use steps::{add_cut, print_more_lines, print_reply_line, print_step_line, print_still};
 pub use transfers::{Side, print_transfer, state_name};

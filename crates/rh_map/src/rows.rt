@@ -21,7 +21,7 @@ use rh_lines::{Pen, Row};
 
 /// The bytes of an area: its first address, the numbers of its pages in the pool from below, and what lies in it.
 #[derive(Clone, Copy)]
-pub struct Area<'a> {
+pub struct AreaBytes<'a> {
     pub start: u32,
     pub pages: &'a [u16],
     pub pieces: &'a [Piece],
@@ -55,7 +55,7 @@ pub(crate) fn row_front(at: &[u8], number: &[u8]) -> Row
 }
 
 /// Writes the row of page k of an area.
-fn print_page<P: Pen>(area: &Area<'_>, k: usize, pen: &mut P)
+fn print_page<P: Pen>(area: &AreaBytes<'_>, k: usize, pen: &mut P)
     requires start { area.now.start < 2 ^ 31 }
     requires few { length area.now.pages.now ≤ MAX_PAGES }
     requires within { k < length area.now.pages.now }
@@ -84,7 +84,7 @@ fn print_between<P: Pen>(pages: u32, pen: &mut P)
 }
 
 /// Writes row i from below of an area, of which the rows between may be left out.
-fn print_row<P: Pen>(area: &Area<'_>, i: usize, pen: &mut P)
+fn print_row<P: Pen>(area: &AreaBytes<'_>, i: usize, pen: &mut P)
     requires start { area.now.start < 2 ^ 31 }
     requires few { length area.now.pages.now ≤ MAX_PAGES }
     requires within { i < min (length area.now.pages.now) MOST_ROWS }
@@ -103,7 +103,7 @@ fn print_row<P: Pen>(area: &Area<'_>, i: usize, pen: &mut P)
 }
 
 /// Writes the rows of an area, the highest first.
-pub fn print_area<P: Pen>(area: &Area<'_>, pen: &mut P)
+pub fn print_area<P: Pen>(area: &AreaBytes<'_>, pen: &mut P)
     requires start { area.now.start < 2 ^ 31 }
     requires few { length area.now.pages.now ≤ MAX_PAGES }
     ensures { P.offered pen.new ≡ P.offered pen.old

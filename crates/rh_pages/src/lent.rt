@@ -2,27 +2,27 @@
 
 ghost use Rattle.std.specs.Prelude.{◌≡◌};
 
-use crate::ground::Ground;
+use crate::backing::Backing;
 use rh_store::bytes::slide_in;
 
 /// Bytes and page numbers that the caller lends, whatever they hold.
 #[derive(Drop)]
-pub struct LentGround<'a> {
+pub struct LentBacking<'a> {
     bytes: &'a mut [u8],
     numbers: &'a mut [u16],
 }
 
-impl<'a> LentGround<'a> {
+impl<'a> LentBacking<'a> {
     /// The ground of these bytes and these numbers.
-    pub fn new(bytes: &'a mut [u8], numbers: &'a mut [u16]) -> LentGround<'a>
+    pub fn new(bytes: &'a mut [u8], numbers: &'a mut [u16]) -> LentBacking<'a>
         ensures bytes { result.bytes.now ≡ bytes.entry.now }
         ensures numbers { result.numbers.now ≡ numbers.entry.now }
     {
-        LentGround { bytes, numbers }
+        LentBacking { bytes, numbers }
     }
 }
 
-impl<'a> Ground for LentGround<'a> {
+impl<'a> Backing for LentBacking<'a> {
     ghost bytes = { λ site. site.bytes.now };
 
     ghost numbers = { λ site. site.numbers.now };

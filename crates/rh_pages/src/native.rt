@@ -4,7 +4,7 @@ ghost use Rattle.std.specs.Prelude.{◌≡◌, ◌*◌, ◌≤◌, length, IfOk}
 ghost use Rattle.rh_defs.specs.declared.sizes.TheConstants.{MAX_PAGES, PAGE};
 ghost use Rattle.rh_pages.specs.declared.table.TheConstants.{LISTS};
 
-use crate::ground::Ground;
+use crate::backing::Backing;
 use crate::table::LISTS;
 use rh_region::Region;
 use rh_store::bytes::slide_in;
@@ -12,21 +12,21 @@ use std::alloc::{AllocError, Global};
 
 /// A region, and page numbers in one vector.
 #[derive(Drop)]
-pub struct RegionGround {
+pub struct RegionBacking {
     region: Region,
     numbers: Vec<u16>,
 }
 
-impl RegionGround {
+impl RegionBacking {
     /// The ground of a store of this many pages. All memory is taken here: AllocError where it is refused.
-    pub fn new(alloc: Global, pages: usize) -> Result<RegionGround, AllocError>
+    pub fn new(alloc: Global, pages: usize) -> Result<RegionBacking, AllocError>
         requires { pages ≤ MAX_PAGES }
         ensures bytes { IfOk result (λ site. length site.region ≡ PAGE * pages) }
         ensures numbers { IfOk result (λ site. length site.numbers.items ≡ LISTS * pages) }
     {
         let region = Region::new(alloc, pages)?;
         let numbers = vec![in alloc; 0; LISTS * pages]?;
-        Ok(RegionGround { region, numbers })
+        Ok(RegionBacking { region, numbers })
     }
 
     /// The region.
@@ -37,7 +37,7 @@ impl RegionGround {
     }
 }
 
-impl Ground for RegionGround {
+impl Backing for RegionBacking {
     ghost bytes = { λ site. site.region };
 
     ghost numbers = { λ site. site.numbers.items };

@@ -12,8 +12,8 @@ mod moves;
 mod parts;
 mod store;
 
-use crate::ground::Ground;
-use crate::native::RegionGround;
+use crate::backing::Backing;
+use crate::native::RegionBacking;
 use crate::table::{FREE, PageTable};
 use rh_defs::sizes::{MAX_AREAS, MAX_PAGES, MIN_PAGES, PAGE};
 use rh_region::Region;
@@ -23,7 +23,7 @@ use std::alloc::{AllocError, Global};
 /// A store whose areas share one ground: an area is a list of page numbers, and page k of the ground is its 4,096 bytes
 /// from the address 4096 * k on.
 #[derive(Drop)]
-pub struct PagedStore<G: Ground = RegionGround> {
+pub struct PagedStore<G: Backing = RegionBacking> {
     site: G,
     table: PageTable,
     opened: [bool; MAX_AREAS],
@@ -45,7 +45,7 @@ impl PagedStore {
         requires most { pages ≤ MAX_PAGES }
         ensures { IfOk result (λ s. paged_memory s ≡ fresh pages) }
     {
-        let site = RegionGround::new(alloc, pages)?;
+        let site = RegionBacking::new(alloc, pages)?;
         Ok(PagedStore::over(site, pages))
     }
 
@@ -58,7 +58,7 @@ impl PagedStore {
     }
 }
 
-impl<G: Ground> PagedStore<G> {
+impl<G: Backing> PagedStore<G> {
     ghost use Rattle.std.specs.Prelude.{◌≡◌, ℕ, ◌+◌, ◌*◌, ◌%◌, ◌<◌, ◌≤◌, length};
     ghost use Rattle.rh_defs.specs.Bytes.{part};
     ghost use Rattle.rh_defs.specs.Memory.{IsOpen, bytes, fresh};

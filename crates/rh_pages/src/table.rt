@@ -6,7 +6,7 @@ ghost use Rattle.rh_defs.specs.declared.sizes.TheConstants.{MAX_PAGES};
 ghost use Rattle.rh_pages.specs.Pages.{list_at};
 ghost use Rattle.rh_pages.specs.declared.table.TheConstants.{LISTS};
 
-use crate::ground::Ground;
+use crate::backing::Backing;
 use rh_defs::sizes::{MAX_AREAS, MAX_PAGES};
 
 /// How many lists a table has. A ground needs as many page numbers for each of its pages.
@@ -51,7 +51,7 @@ impl PageTable {
     }
 
     /// The number at an index of a list.
-    pub fn at<G: Ground>(&self, site: &G, k: usize, i: usize) -> u16
+    pub fn at<G: Backing>(&self, site: &G, k: usize, i: usize) -> u16
         requires list { k < LISTS }
         requires within { i < length (list_at (lists_of (G.numbers site.now) self.now) k) }
         ensures { result ≡ slice_index (list_at (lists_of (G.numbers site.now) self.now) k) i }
@@ -60,7 +60,7 @@ impl PageTable {
     }
 
     /// Appends a number to a list.
-    pub fn push<G: Ground>(&mut self, site: &mut G, to: usize, number: u16)
+    pub fn push<G: Backing>(&mut self, site: &mut G, to: usize, number: u16)
         requires list { to < LISTS }
         requires long { LISTS * self.old.room ≤ length (G.numbers site.old) }
         requires room { length (list_at (lists_of (G.numbers site.old) self.old) to) < self.old.room }
@@ -76,7 +76,7 @@ impl PageTable {
     }
 
     /// Takes the last number off a list.
-    pub fn pop<G: Ground>(&mut self, site: &G, from: usize) -> u16
+    pub fn pop<G: Backing>(&mut self, site: &G, from: usize) -> u16
         requires list { from < LISTS }
         requires long { LISTS * self.old.room ≤ length (G.numbers site.now) }
         requires some { 0 < length (list_at (lists_of (G.numbers site.now) self.old) from) }

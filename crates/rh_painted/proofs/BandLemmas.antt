@@ -7,7 +7,7 @@ use Rattle.rh_figure.specs.Cards.{Card, CardKind}
 use Rattle.rh_figure.specs.Phrases.{bytes_text}
 use Rattle.rh_map.specs.MapCards.{IsFrontOf, front_text}
 use Rattle.rh_sheet.specs.SheetCards.{card_sentence}
-use Rattle.rh_painted.specs.declared.bands.Form.TheVariants.{Told}
+use Rattle.rh_painted.specs.declared.bands.BandForm.TheVariants.{Told}
 
 -- ---- a card by its parts
 

@@ -1,6 +1,7 @@
 -- The text of a chart, part by part.
 use Rattle.rh_painted.proofs.Common.{◌≡◌, ℕ, ◌+◌, ◌<◌, true, false, refl, ap₂, ◌∙◌, arith, append_assoc, append-nil, List, [], ◌∷◌, ◌++◌, length, ◌==◌, codes}
-use Rattle.rh_painted.proofs.Common.{concat, flat_map, Desk, with_queue, Text, Note, arrow_sentence, arrows, steps_in, tasks_in, escape, figure_open, Way}
+use Rattle.rh_painted.proofs.Common.{concat, flat_map, Desk, with_queue, Text, Note}
+use Rattle.rh_painted.proofs.Common.{arrow_sentence, arrows, steps_in, tasks_in, escape, figure_open, MessageArrow}
 use Rattle.rh_painted.proofs.Common.{arrow_of, arrows_seen}
 use Rattle.rh_sheet.specs.declared.sizes.TheConstants.{CHART_EDGE, CHART_WIDTH}
 use Rattle.rh_sheet.specs.Chart.{Arrow, chart_body, chart_foot, chart_of}
@@ -33,12 +34,12 @@ chart-parts d drawn tasks steps step p q some =
     ∙ parts-are d drawn step some
 
 -- arrows that are seen are some
-pub ways-some : (ws : List Way) → 0 < length ws → is_some (arrows_seen ws) ≡ true
+pub ways-some : (ws : List MessageArrow) → 0 < length ws → is_some (arrows_seen ws) ≡ true
 ways-some [] few = absurd (omega (arith, few))
 ways-some (w ∷ ws) few = some-more (arrow_of w) (arrows_seen ws)
 
 -- some messages have arrows
-pub drawn-some : (ws : List Way) (notes : List Note) → arrows_seen ws ≡ arrows notes → (length notes == 0) ≡ false → 0 < length ws
+pub drawn-some : (ws : List MessageArrow) (notes : List Note) → arrows_seen ws ≡ arrows notes → (length notes == 0) ≡ false → 0 < length ws
 drawn-some [] [] e some = absurd (cc)
 drawn-some [] (n ∷ notes) e some = absurd (cc)
 drawn-some (w ∷ ws) notes e some = omega arith

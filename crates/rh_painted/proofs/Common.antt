@@ -46,7 +46,7 @@ pub use Rattle.rh_figure.specs.declared.piece.Piece.{Piece}
 pub use Rattle.rh_lines.proofs.FlowLemmas.{takes_more}
 pub use Rattle.rh_lines.specs.Flow.{Breaks, Output, Puts, Takes}
 pub use Rattle.rh_map.proofs.Left.{Left, left_less, left_none}
-pub use Rattle.rh_draw.proofs.WriteLemmas.{offered_as}
+pub use Rattle.rh_elements.proofs.WriteLemmas.{offered_as}
 pub use Rattle.rh_sheet.specs.SheetAreas.{lens_below, ticks_text}
 pub use Rattle.rh_sheet.specs.Chart.{arrow_sentence, arrows, followed, inserted, noted, steps_in, tasks_in}
 pub use Rattle.rh_sheet.specs.SheetLaws.{at_desk}
@@ -58,14 +58,14 @@ unfoldable pub use Rattle.rh_sheet.specs.SheetSteps.{figure_text}
 pub use Rattle.rh_sheet.specs.Tables.{letterbox_row, messages_table, transfer_row, transfers_table}
 pub use Rattle.rh_sheet.specs.declared.frame.Frame.{Frame}
 pub use Rattle.rh_sheet.specs.declared.note.Note.{Note}
-pub use Rattle.rh_sight.proofs.Heaps.{task-slot}
-pub use Rattle.rh_sight.proofs.Holders.{at-some}
-pub use Rattle.rh_sight.proofs.PieceWalks.{items-long}
-pub use Rattle.rh_sight.proofs.SlotPieces.{few-blocks}
-pub use Rattle.rh_sight.specs.SightMessages.{held_on, message_items, waiting_on}
-pub use Rattle.rh_sight.specs.Seen.{IsTaskSeen, heap_seen}
-pub use Rattle.rh_sight.specs.Steps.{scene_at}
-pub use Rattle.rh_sight.specs.declared.walk.Census.{Census}
+pub use Rattle.rh_scene.proofs.Heaps.{task-slot}
+pub use Rattle.rh_scene.proofs.Holders.{at-some}
+pub use Rattle.rh_scene.proofs.PieceWalks.{items-long}
+pub use Rattle.rh_scene.proofs.SlotPieces.{few-blocks}
+pub use Rattle.rh_scene.specs.SightMessages.{held_on, message_items, waiting_on}
+pub use Rattle.rh_scene.specs.Seen.{IsTaskSeen, heap_seen}
+pub use Rattle.rh_scene.specs.Steps.{scene_at}
+pub use Rattle.rh_scene.specs.declared.walk.Census.{Census}
 pub use Rattle.rh_painted.specs.PaintedBands.{form_text}
 pub use Rattle.rh_painted.specs.Inner.BandTexts.{band_text_from}
 pub use Rattle.rh_painted.specs.Inner.Charts.{beat_in, path_in, words_in}
@@ -77,5 +77,5 @@ pub use Rattle.rh_painted.specs.PaintedWalks.{PaintedLine, TookPaintedLine, walk
 pub use Rattle.rh_painted.specs.Inner.PaintedSteps.{happened_at}
 pub use Rattle.rh_painted.specs.Ways.{arrow_of, arrows_seen}
 pub use Rattle.rh_painted.specs.declared.painter.Painter.{Painter}
-pub use Rattle.rh_painted.specs.declared.ways.Way.{Way}
+pub use Rattle.rh_painted.specs.declared.ways.MessageArrow.{MessageArrow}
 pub use Rattle.rh_drawn.proofs.TextPuts.{left_from, left_last, offered_none}

@@ -9,7 +9,7 @@ use Rattle.rh_defs.specs.declared.message.Letter.{Letter}
 use Rattle.rh_figure.specs.Scene.{Marks, sent_by}
 use Rattle.rh_sheet.specs.Chart.{code_or_none, last_of, new_notes, waiting_code}
 use Rattle.rh_sheet.specs.declared.sizes.TheConstants.{MOST_NOTES}
-use Rattle.rh_sight.specs.SightMessages.{seen_item}
+use Rattle.rh_scene.specs.SightMessages.{seen_item}
 
 -- ---- the code under which a message waits
 

@@ -11,12 +11,12 @@ use Rattle.rh_defs.specs.Laws.{IsDesk}
 use Rattle.rh_figure.specs.Phrases.{name_or}
 use Rattle.rh_figure.specs.Share.{fixed_holding}
 use Rattle.rh_sheet.specs.Owners.{slot_tag}
-use Rattle.rh_sight.specs.declared.sight.PagesOf.TheVariants as pages
-use Rattle.rh_sight.specs.declared.sight.TaskSight.{TaskSight}
-use Rattle.rh_sight.specs.SightPages.{share_in}
-use Rattle.rh_sight.specs.Seen.{owner_seen}
-use Rattle.rh_sight.proofs.Holders.{area-at, stands-count, stands-fixed, stands-made, stands-slot}
-use Rattle.rh_sight.proofs.Places.{past-end}
+use Rattle.rh_scene.specs.declared.sight.PagesOf.TheVariants as pages
+use Rattle.rh_scene.specs.declared.sight.TaskSight.{TaskSight}
+use Rattle.rh_scene.specs.SightPages.{share_in}
+use Rattle.rh_scene.specs.Seen.{owner_seen}
+use Rattle.rh_scene.proofs.Holders.{area-at, stands-count, stands-fixed, stands-made, stands-slot}
+use Rattle.rh_scene.proofs.Places.{past-end}
 use Rattle.rh_drawn.proofs.DrawingLemmas.{task-stands}
 use Rattle.rh_drawn.proofs.PageLemmas.{seen-made}
 use Rattle.rh_painted.specs.declared.owners.Named.TheVariants.{Area, Slot}

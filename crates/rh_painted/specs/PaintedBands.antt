@@ -4,17 +4,17 @@ use Rattle.rh_figure.specs.Phrases.{Text}
 use Rattle.rh_figure.specs.Cards.{Card}
 use Rattle.rh_sheet.specs.Markup.{escape}
 use Rattle.rh_sheet.specs.SheetCards.{card_sentence, low_card_text, high_card_text}
-use Rattle.rh_painted.specs.declared.bands.Form.{Form}
-use Rattle.rh_painted.specs.declared.bands.Form.TheVariants.{Told, Below, Above}
+use Rattle.rh_painted.specs.declared.bands.BandForm.{BandForm}
+use Rattle.rh_painted.specs.declared.bands.BandForm.TheVariants.{Told, Below, Above}
 
 -- what is written of a card with its place among those that are shown
-abbrev pub form_text : Form → ℕ × Card → Text
+abbrev pub form_text : BandForm → ℕ × Card → Text
 form_text Told placed = escape (card_sentence placed.1)
 form_text (Below y) placed = low_card_text y placed
 form_text (Above y) placed = high_card_text y placed
 
 -- the height is one of a figure
-abbrev pub IsFit : Form → Type 0
+abbrev pub IsFit : BandForm → Type 0
 IsFit Told = Unit {0}
 IsFit (Below y) = y ≤ 1000
 IsFit (Above y) = y ≤ 1000

@@ -1,13 +1,13 @@
 -- Owners of pages as they are seen.
 use Rattle.std.specs.Prelude.{◌≡◌, ℕ, ◌==◌, ◌++◌, if◌then◌else◌, codes, slice_get, Some}
 use Rattle.rh_defs.specs.Desk.{Desk, module_area}
-use Rattle.rh_draw.specs.declared.tints.Tint.{Tint}
-use Rattle.rh_draw.specs.declared.tints.Tint.TheVariants as tint
+use Rattle.rh_elements.specs.declared.tints.Tint.{Tint}
+use Rattle.rh_elements.specs.declared.tints.Tint.TheVariants as tint
 use Rattle.rh_figure.specs.Phrases.{Text, area_name, owner_name}
 use Rattle.rh_figure.specs.Share as share
 use Rattle.rh_figure.specs.Share.{Holding, count_of, holdings}
 use Rattle.rh_sheet.specs.Owners.{area_tag, slot_tag, owner_tag}
-use Rattle.rh_sight.specs.Seen.{owner_seen}
+use Rattle.rh_scene.specs.Seen.{owner_seen}
 use Rattle.rh_painted.specs.declared.owners.Named.{Named}
 use Rattle.rh_painted.specs.declared.owners.Named.TheVariants.{Area, Slot}
 use Rattle.rh_painted.specs.declared.owners.OwnerSight.{OwnerSight}

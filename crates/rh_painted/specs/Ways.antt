@@ -5,16 +5,16 @@ use Rattle.std.specs.Fmt.{decimal}
 use Rattle.rh_defs.specs.Text.{action_name}
 use Rattle.rh_figure.specs.Phrases.{Text, where_so}
 use Rattle.rh_sheet.specs.Chart.{Arrow}
-use Rattle.rh_painted.specs.declared.ways.Way.{Way}
+use Rattle.rh_painted.specs.declared.ways.MessageArrow.{MessageArrow}
 
 -- the words of a message, on its way out or back
-abbrev pub way_words : Way → Text
+abbrev pub way_words : MessageArrow → Text
 way_words w = concat (
     decimal w.my_ref ∷ codes " " ∷ action_name w.action ∷ where_so w.is_back (codes " back") ∷ []
     )
 
-abbrev pub arrow_of : Way → Arrow
+abbrev pub arrow_of : MessageArrow → Arrow
 arrow_of w = record { start = w.start; stop = w.stop; from = w.from; to = w.to; words = way_words w }
 
-abbrev pub arrows_seen : List Way → List Arrow
+abbrev pub arrows_seen : List MessageArrow → List Arrow
 arrows_seen ways = map arrow_of ways

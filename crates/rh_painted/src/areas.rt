@@ -4,7 +4,7 @@ ghost use Rattle.std.specs.Prelude.{◌≡◌, ◌++◌};
 ghost use Rattle.rh_figure.specs.Phrases.{area_name};
 ghost use Rattle.rh_sheet.specs.Markup.{heading_text};
 
-use rh_draw::print_heading;
+use rh_elements::print_heading;
 use rh_lines::{Pen, Row};
 use rh_map::add_area_name;
 

@@ -8,11 +8,11 @@ ghost use Rattle.rh_figure.specs.Phrases.{where_so};
 ghost use Rattle.rh_sheet.specs.Arrows.{slide_arrow};
 
 use rh_defs::{BlockItem, Handle};
-use rh_draw::{Slide, print_slide_arrow};
 use rh_drawn::find_slid;
+use rh_elements::{Slide, print_slide_arrow};
 use rh_lines::Pen;
+use rh_scene::Step;
 use rh_sheet::Frame;
-use rh_sight::Step;
 
 /// Writes the arrow of the slide of a task's blocks, if the command named the task and some slid.
 pub fn print_arrow_of<P: Pen>(

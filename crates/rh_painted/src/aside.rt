@@ -3,7 +3,7 @@
 ghost use Rattle.std.specs.Prelude.{◌≡◌, ◌≤◌, ◌++◌, length};
 ghost use Rattle.rh_sheet.specs.SheetSteps.{aside_text, has_aside as has_aside_at};
 ghost use Rattle.rh_sheet.specs.declared.sizes.TheConstants.{MOST_NOTES};
-ghost use Rattle.rh_sight.specs.Steps.{IsStepOf, scene_at};
+ghost use Rattle.rh_scene.specs.Steps.{IsStepOf, scene_at};
 ghost use Rattle.rh_defs.specs.Post.{most_messages};
 
 use crate::chart::print_chart;
@@ -11,8 +11,8 @@ use crate::letters::print_messages;
 use crate::transfers::print_transfers;
 use rh_drawn::{has_letterboxes, has_transfers};
 use rh_lines::Pen;
+use rh_scene::{Sight, Step};
 use rh_sheet::Note;
-use rh_sight::{Sight, Step};
 
 /// Writes what stands beside the memory at a step with a number, if something does.
 pub fn print_aside<S: Sight, P: Pen>(

@@ -1,7 +1,7 @@
 //! Cards, drawn or read out, one after the other.
 
 ghost use Rattle.std.specs.Prelude.{◌≡◌, ◌≤◌, ◌<◌, ◌+◌, ◌++◌, length};
-ghost use Rattle.rh_draw.specs.DrawCards.{drawn_card};
+ghost use Rattle.rh_elements.specs.DrawCards.{drawn_card};
 ghost use Rattle.rh_figure.specs.declared.limits.TheConstants.{MOST_CARDS};
 ghost use Rattle.rh_lines.specs.declared.row.TheConstants.{ROW};
 ghost use Rattle.rh_painted.specs.PaintedBands.{IsFit, form_text};
@@ -10,8 +10,8 @@ ghost use Rattle.rh_sheet.specs.SheetCards.{card_sentence};
 ghost use Rattle.rh_sheet.specs.Markup.{escape};
 
 use rh_defs::Anchor;
-use rh_draw::{Card, Look, print_high_card, print_low_card, put_escaped};
 use rh_drawn::CardArtist;
+use rh_elements::{Card, Look, print_high_card, print_low_card, put_escaped};
 use rh_lines::{Pen, Row};
 use rh_map::{
     CardBlock, CardMessage, add_size, block_bytes, block_size, flex_name, hole_name, message_name,
@@ -20,13 +20,13 @@ use rh_map::{
 
 /// What becomes of the cards of a band: they are read out, or drawn below a height or above it.
 #[derive(Clone, Copy)]
-pub enum Form {
+pub enum BandForm {
     Told,
     Below(u32),
     Above(u32),
 }
 
-impl CardArtist for Form {
+impl CardArtist for BandForm {
     ghost has_room = { IsFit };
 
     ghost card_text = { form_text };
@@ -101,23 +101,23 @@ impl CardArtist for Form {
 }
 
 /// Writes card k of those that are shown.
-fn put_card<P: Pen>(form: Form, k: u32, card: &Card<'_>, pen: &mut P)
+fn put_card<P: Pen>(form: BandForm, k: u32, card: &Card<'_>, pen: &mut P)
     requires few { k < MOST_CARDS }
     requires height { IsFit form }
     requires short { length card.now.first.now + length card.now.second.now + length card.now.third.now ≤ 200 }
     ensures { P.offered pen.new ≡ P.offered pen.old ++ form_text form (k, drawn_card card.now) }
 {
     match form {
-        Form::Told => tell_card(card, pen),
-        Form::Below(y) => print_low_card(y, k, card, pen),
-        Form::Above(y) => print_high_card(y, k, card, pen),
+        BandForm::Told => tell_card(card, pen),
+        BandForm::Below(y) => print_low_card(y, k, card, pen),
+        BandForm::Above(y) => print_high_card(y, k, card, pen),
     }
 }
 
 /// Writes a card as it is read out.
 fn tell_card<P: Pen>(card: &Card<'_>, pen: &mut P)
     requires { length card.now.first.now + length card.now.second.now + length card.now.third.now ≤ 200 }
-    ensures { P.offered pen.new ≡ P.offered pen.old ++ form_text Form.Told (0, drawn_card card.now) }
+    ensures { P.offered pen.new ≡ P.offered pen.old ++ form_text BandForm.Told (0, drawn_card card.now) }
 {
     let mut row = Row::new();
     add_behind_comma(&mut row, card.first);

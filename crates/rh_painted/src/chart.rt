@@ -13,24 +13,24 @@ ghost use Rattle.rh_sheet.specs.Chart.{task_x as task_x_of};
 ghost use Rattle.rh_sheet.specs.Markup.{escape};
 ghost use Rattle.rh_sheet.specs.declared.sizes.TheConstants.{MOST_NOTES};
 
-use crate::ways::{Way, steps_in, tasks_in, ways_of};
+use crate::ways::{MessageArrow, steps_in, tasks_in, ways_of};
 use rh_defs::Handle;
-use rh_draw::{
+use rh_drawn::who_of;
+use rh_elements::{
     Ends, place_among, print_beat, print_described, print_figure_end, print_figure_open,
     print_life, print_message_arrow, print_message_words, put_escaped,
 };
-use rh_drawn::who_of;
 use rh_lines::{Pen, Row};
 use rh_map::add_who;
+use rh_scene::{Sight, task_with};
 use rh_sheet::Note;
 use rh_sheet::sizes::{BEAT, CHART_EDGE, CHART_LEFT, CHART_SPREAD, CHART_TOP, CHART_WIDTH};
-use rh_sight::{Sight, task_with};
 
 /// A chart as it stands at a step: its arrows, the handles of the tasks between which they go, and the steps at which
 /// they begin or end.
 #[derive(Clone, Copy)]
 struct Chart<'a> {
-    ways: &'a [Way],
+    ways: &'a [MessageArrow],
     tasks: &'a [u32],
     steps: &'a [u32],
     step: u32,
@@ -72,7 +72,7 @@ fn print_whole<S: Sight, P: Pen>(sight: &S, chart: &Chart<'_>, pen: &mut P)
 }
 
 /// Writes the arrows as they are read out.
-fn print_sentences<S: Sight, P: Pen>(sight: &S, ways: &[Way], pen: &mut P)
+fn print_sentences<S: Sight, P: Pen>(sight: &S, ways: &[MessageArrow], pen: &mut P)
     ensures { P.offered pen.new ≡ P.offered pen.old
         ++ escape (flat_map (arrow_sentence (S.desk sight.now)) (arrows_seen ways.now)) }
 {
@@ -82,7 +82,7 @@ fn print_sentences<S: Sight, P: Pen>(sight: &S, ways: &[Way], pen: &mut P)
 }
 
 /// Writes an arrow as it is read out.
-fn print_sentence<S: Sight, P: Pen>(sight: &S, way: &Way, pen: &mut P)
+fn print_sentence<S: Sight, P: Pen>(sight: &S, way: &MessageArrow, pen: &mut P)
     ensures { P.offered pen.new ≡ P.offered pen.old ++ escape (arrow_sentence (S.desk sight.now) (arrow_of way.now)) }
 {
     let mut row = way.words();
@@ -167,7 +167,7 @@ fn print_arrows<P: Pen>(chart: &Chart<'_>, pen: &mut P)
 }
 
 /// Writes an arrow without its words.
-fn print_arrow<P: Pen>(chart: &Chart<'_>, way: &Way, pen: &mut P)
+fn print_arrow<P: Pen>(chart: &Chart<'_>, way: &MessageArrow, pen: &mut P)
     requires { IsSmallChart chart.now }
     ensures { P.offered pen.new ≡ P.offered pen.old ++ path_in chart.now (arrow_of way.now) }
 {
@@ -185,7 +185,7 @@ fn print_all_words<P: Pen>(chart: &Chart<'_>, pen: &mut P)
 }
 
 /// Writes the words of an arrow.
-fn print_words_of<P: Pen>(chart: &Chart<'_>, way: &Way, pen: &mut P)
+fn print_words_of<P: Pen>(chart: &Chart<'_>, way: &MessageArrow, pen: &mut P)
     requires { IsSmallChart chart.now }
     ensures { P.offered pen.new ≡ P.offered pen.old ++ words_in chart.now (arrow_of way.now) }
 {
@@ -238,7 +238,7 @@ impl<'a> Chart<'a> {
     }
 
     /// Where an arrow begins and ends.
-    fn ends(&self, way: &Way) -> Ends
+    fn ends(&self, way: &MessageArrow) -> Ends
         requires { IsSmallChart self.now }
         ensures value { result ≡ ends_of self.now way.now }
         ensures near { AreNear result }
@@ -252,7 +252,7 @@ impl<'a> Chart<'a> {
     }
 
     /// Whether an arrow begins or ends at the step.
-    fn is_now(&self, way: &Way) -> bool
+    fn is_now(&self, way: &MessageArrow) -> bool
         ensures { result ≡ is_now_of self.now.step (arrow_of way.now) }
     {
         way.start == self.step || way.stop == self.step

@@ -2,7 +2,7 @@
 
 ghost use Rattle.std.specs.Prelude.{◌≡◌, ◌≤◌, ◌++◌, length};
 ghost use Rattle.rh_sheet.specs.SheetSteps.{figure_text, memory_text};
-ghost use Rattle.rh_sight.specs.Steps.{IsStepOf, scene_at};
+ghost use Rattle.rh_scene.specs.Steps.{IsStepOf, scene_at};
 ghost use Rattle.rh_defs.specs.Post.{most_messages};
 
 use crate::aside::print_aside;
@@ -13,7 +13,7 @@ use crate::sheet_artist::SheetArtist;
 use crate::slots::print_slots;
 use rh_drawn::{Lists, show_areas};
 use rh_lines::Pen;
-use rh_sight::{Sight, Step};
+use rh_scene::{Sight, Step};
 
 /// Writes the figure of a desk behind a step with a number.
 pub fn print_figure<S: Sight, P: Pen>(

@@ -3,13 +3,13 @@
 ghost use Rattle.std.specs.Prelude.{◌≡◌, ◌≤◌, ◌++◌, length};
 ghost use Rattle.rh_figure.specs.Figure.{letterboxes};
 ghost use Rattle.rh_sheet.specs.Tables.{messages_table};
-ghost use Rattle.rh_sight.specs.Steps.{IsStepOf, scene_at};
+ghost use Rattle.rh_scene.specs.Steps.{IsStepOf, scene_at};
 ghost use Rattle.rh_defs.specs.Post.{most_messages};
 
 use crate::sheet_artist::SheetArtist;
 use rh_drawn::{has_letterboxes, show_letterboxes};
 use rh_lines::Pen;
-use rh_sight::{Sight, Step};
+use rh_scene::{Sight, Step};
 
 /// Writes the table of the messages of each task that has some.
 pub fn print_messages<S: Sight, P: Pen>(sight: &S, step: &Step<'_>, pen: &mut P)

@@ -3,30 +3,30 @@
 ghost use Rattle.std.specs.Prelude.{◌≡◌, ◌≤◌, ◌++◌, length};
 ghost use Rattle.rh_defs.specs.Heap.{first_place};
 ghost use Rattle.rh_defs.specs.declared.sizes.TheConstants.{MAX_PAGES};
-ghost use Rattle.rh_draw.specs.DrawRows.{plot_of};
+ghost use Rattle.rh_elements.specs.DrawRows.{plot_of};
 ghost use Rattle.rh_figure.specs.Layout.{module_pieces as module_pieces_of};
 ghost use Rattle.rh_figure.specs.Share.{AreaOf};
 ghost use Rattle.rh_sheet.specs.SheetAreas.{module_body, module_description, module_figure, module_frame, module_plot};
 ghost use Rattle.rh_sheet.specs.Markup.{escape};
 ghost use Rattle.rh_sheet.specs.SheetSteps.{module_part};
-ghost use Rattle.rh_sight.specs.Steps.{IsStepOf, scene_at};
-ghost use Rattle.rh_sight.specs.Walks.{census_of};
+ghost use Rattle.rh_scene.specs.Steps.{IsStepOf, scene_at};
+ghost use Rattle.rh_scene.specs.Walks.{census_of};
 
 use crate::areas::print_area_heading;
-use crate::bands::Form;
+use crate::bands::BandForm;
 use crate::rows::{put_pages, rows_for};
 use rh_defs::Handle;
 use rh_defs::sizes::{HEAP_FIRST, MODULE_AREA, MODULE_START};
-use rh_draw::{
+use rh_drawn::{Band, Lists, show_heap_cards};
+use rh_elements::{
     Plot, Tint, foot, height, print_described, print_figure_end, print_figure_open,
     print_lens_below, print_rows,
 };
-use rh_drawn::{Band, Lists, show_heap_cards};
 use rh_lines::{Pen, Row};
 use rh_map::add_pages;
+use rh_scene::{Census, HeapOf, Owner, PagesOf, Sight, Step, module_pieces, pages_of, take_census};
 use rh_sheet::Frame;
 use rh_sheet::sizes::{FIGURE_WIDTH, LENS_HEIGHT};
-use rh_sight::{Census, HeapOf, Owner, PagesOf, Sight, Step, module_pieces, pages_of, take_census};
 
 /// Writes the heading and the figure of the module area.
 pub fn print_module_part<S: Sight, P: Pen>(
@@ -87,7 +87,7 @@ fn print_description<S: Sight, P: Pen>(sight: &S, step: &Step<'_>, pages: &[u16]
         handle: Handle(0),
         taking: &[],
     };
-    show_heap_cards(sight, step, &band, &Form::Told, pen);
+    show_heap_cards(sight, step, &band, &BandForm::Told, pen);
 }
 
 /// Writes what leads to the cards, the rows, and the cards.
@@ -109,7 +109,7 @@ fn print_body<S: Sight, P: Pen>(
     let high = census.end as usize;
     print_lens_below(frame, HEAP_FIRST, high, census.count, pen);
     print_rows(frame, plot, pen);
-    let below = Form::Below(foot(frame) + LENS_HEIGHT);
+    let below = BandForm::Below(foot(frame) + LENS_HEIGHT);
     let band = Band {
         heap: HeapOf::Module,
         handle: Handle(0),

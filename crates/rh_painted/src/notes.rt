@@ -6,16 +6,16 @@ ghost use Rattle.rh_figure.specs.Scene.{Before, Marks, scene_of};
 ghost use Rattle.rh_figure.specs.Share.{Share};
 ghost use Rattle.rh_sheet.specs.Chart.{followed as note_after, last_of, note_of, noted};
 ghost use Rattle.rh_sheet.specs.declared.sizes.TheConstants.{MOST_NOTES};
-ghost use Rattle.rh_sight.specs.SightMessages.{message_items};
-ghost use Rattle.rh_sight.specs.Seen.{letter_seen};
-ghost use Rattle.rh_sight.specs.Steps.{IsSender};
+ghost use Rattle.rh_scene.specs.SightMessages.{message_items};
+ghost use Rattle.rh_scene.specs.Seen.{letter_seen};
+ghost use Rattle.rh_scene.specs.Steps.{IsSender};
 
 use arrayvec::ArrayVec;
 use rh_defs::{Letter, MessageItem, Ref};
-use rh_draw::followed;
+use rh_elements::followed;
+use rh_scene::{Messages, Sight, StepSender, sent_by};
 use rh_sheet::Note;
 use rh_sheet::sizes::MOST_NOTES;
-use rh_sight::{Messages, Sender, Sight, sent_by};
 
 /// What is kept of the last messages, the oldest first.
 pub type Notes = ArrayVec<Note, MOST_NOTES>;
@@ -24,7 +24,7 @@ pub type Notes = ArrayVec<Note, MOST_NOTES>;
 /// have sent one.
 pub fn note_step<S: Sight>(
     sight: &S,
-    sender: Sender,
+    sender: StepSender,
     number: u32,
     messages: &mut Messages,
     notes: &mut Notes,

@@ -8,16 +8,16 @@ ghost use Rattle.rh_lines.specs.declared.row.TheConstants.{ROW};
 ghost use Rattle.rh_painted.specs.PaintedOwners.{IsOwnerSeen, name_seen, tag_seen, tint_seen, who_seen};
 ghost use Rattle.rh_sheet.specs.Owners.{area_tag as tag_of_area, slot_tag as tag_of_slot};
 ghost use Rattle.rh_sheet.specs.declared.sizes.TheConstants.{TAG_LETTERS};
-ghost use Rattle.rh_sight.specs.SightOwners.{shared_owner};
+ghost use Rattle.rh_scene.specs.SightOwners.{shared_owner};
 
 use rh_defs::sizes::{FIXED_AREAS, MODULE_AREA};
 use rh_defs::{Handle, Name};
-use rh_draw::Tint;
 use rh_drawn::count_made;
+use rh_elements::Tint;
 use rh_lines::Row;
 use rh_map::{add_area_name, add_slot_name, area_takes, slot_takes};
+use rh_scene::{Owner, PagesOf, Sight};
 use rh_sheet::sizes::TAG_LETTERS;
-use rh_sight::{Owner, PagesOf, Sight};
 
 /// An owner by name: an area by its number, or the slot of the task with the handle and the name.
 #[derive(Clone, Copy)]

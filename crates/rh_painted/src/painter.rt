@@ -23,24 +23,24 @@ ghost use Rattle.rh_sheet.specs.Chart.{noted};
 ghost use Rattle.rh_sheet.specs.Sheet.{is_shown, opening, sheet_end, sheet_head};
 ghost use Rattle.rh_sheet.specs.SheetSteps.{step_text};
 ghost use Rattle.rh_sheet.specs.declared.sizes.TheConstants.{MOST_STEPS};
-ghost use Rattle.rh_sight.specs.SightMessages.{message_items};
-ghost use Rattle.rh_sight.specs.SightPages.{share_in};
-ghost use Rattle.rh_sight.specs.Steps.{IsSender};
+ghost use Rattle.rh_scene.specs.SightMessages.{message_items};
+ghost use Rattle.rh_scene.specs.SightPages.{share_in};
+ghost use Rattle.rh_scene.specs.Steps.{IsSender};
 
 use crate::notes::{Notes, note_step};
 use crate::progress::Progress;
 use crate::steps::{print_rest, print_step};
 use arrayvec::ArrayVec;
 use rh_defs::{Command, LineFault, Question, Reply};
-use rh_draw::{print_foot, print_head, print_remark, print_step_open};
 use rh_drawn::{
-    Above, Deed, Drawn, Lists, answer, excerpt_fault, holds_unless, is_wanted, rest_fault, step_of,
+    Above, Deed, Drawn, Lists, and_not, answer, excerpt_fault, is_wanted, rest_fault, step_of,
 };
+use rh_elements::{print_foot, print_head, print_remark, print_step_open};
 use rh_feed::LineTaker;
 use rh_lines::{Pen, Sink, WriteFailed, WriterPen, read_line};
 use rh_map::{Front, has_words};
+use rh_scene::{Kept, Messages, PageList, StepSender, is_still};
 use rh_session::Status;
-use rh_sight::{Kept, Messages, PageList, Sender, is_still};
 
 /// So many bytes of a sheet's beginning are held at a time.
 const HEAD_ROOM: usize = 16_384;
@@ -155,7 +155,7 @@ impl<D: Drawn> Painter<D> {
             → DrewLine D.desk self.old o line (Ok (Some command.now)) self.new o }
         ensures steps { self.new.progress.steps ≡ self.old.progress.steps + 1 }
     {
-        let sender = Sender::new(&self.drawn, Some(command));
+        let sender = StepSender::new(&self.drawn, Some(command));
         self.change(command);
         self.leave_out(sender);
     }
@@ -173,7 +173,7 @@ impl<D: Drawn> Painter<D> {
     }
 
     /// Leaves a step out, and notes what has become of the last messages at it.
-    fn leave_out(&mut self, sender: Sender)
+    fn leave_out(&mut self, sender: StepSender)
         requires room { self.old.progress.steps + 1 < 2 ^ 32 }
         requires hidden { is_shown self.old.marked (walk_in D.desk self.old) self.old.progress.wanted ≡ false }
         ensures left { (b : Before) → IsSender sender b → LeftStep D.desk self.old b self.new }
@@ -193,7 +193,7 @@ impl<D: Drawn> Painter<D> {
     {
         self.has_bad_line = true;
         if !self.shows_next() {
-            let sender = Sender::new(&self.drawn, None);
+            let sender = StepSender::new(&self.drawn, None);
             self.leave_out(sender);
             return;
         }
@@ -230,7 +230,7 @@ impl<D: Drawn> Painter<D> {
     }
 
     /// Counts one more command, and notes what has become of the last messages behind it.
-    fn begin_step(&mut self, sender: Sender)
+    fn begin_step(&mut self, sender: StepSender)
         requires { self.old.progress.steps + 1 < 2 ^ 32 }
         ensures next { let old = self.old.progress in
             self.new.progress ≡ record old { steps = old.steps + 1; wanted = false } }
@@ -286,7 +286,7 @@ impl<D: Drawn> Painter<D> {
             line,
             front: self.front.as_slice(),
             count: deed.count,
-            is_still: holds_unless(is_still(deed.command, deed.reply), deed.wanted),
+            is_still: and_not(is_still(deed.command, deed.reply), deed.wanted),
         };
         print_step(
             &self.drawn,

@@ -10,18 +10,18 @@ ghost use Rattle.rh_painted.specs.PaintedOwners.{IsOwnerOf, holding_seen, name_s
 ghost use Rattle.rh_sheet.specs.Markup.{escape};
 ghost use Rattle.rh_sheet.specs.Pool.{freed_squares, owner_classes, owner_sentence, owner_squares, pool_body};
 ghost use Rattle.rh_sheet.specs.Pool.{pool_description, pool_figure, pool_height as height_of_pool, tags_text};
-ghost use Rattle.rh_sight.specs.Steps.{IsStepOf, scene_at};
+ghost use Rattle.rh_scene.specs.Steps.{IsStepOf, scene_at};
 
 use crate::owners::{Named, OwnerSight, owner_at, takes_told};
-use rh_draw::{
+use rh_drawn::freed_of;
+use rh_elements::{
     add_tint, print_described, print_figure_end, print_figure_open, print_pool_side, print_squares,
     print_tags, put_escaped,
 };
-use rh_drawn::freed_of;
 use rh_lines::{Pen, Row};
 use rh_map::{add_numbers, freed};
+use rh_scene::{Sight, Step, pages_of};
 use rh_sheet::sizes::{CELL, FIGURE_WIDTH, FRAME_EDGE, POOL_COLUMNS};
-use rh_sight::{Sight, Step, pages_of};
 
 /// Writes the figure of the pool.
 pub fn print_pool_figure<S: Sight, P: Pen>(sight: &S, step: &Step<'_>, pen: &mut P)

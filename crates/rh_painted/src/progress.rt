@@ -4,7 +4,7 @@ ghost use Rattle.std.specs.Prelude.{◌≡◌, ◌≤◌, ◌<◌, ◌+◌, ◌^
 ghost use Rattle.std.specs.Bool.{OnTrue};
 ghost use Rattle.rh_sheet.specs.declared.sizes.TheConstants.{MOST_STEPS};
 
-use rh_drawn::holds_unless;
+use rh_drawn::and_not;
 use rh_sheet::sizes::MOST_STEPS;
 use std::marker::Model;
 
@@ -117,7 +117,7 @@ impl Progress {
         ensures value { result ≡ (nat_lt self.now.shown MOST_STEPS && (not marked || wanted)) }
         ensures room { OnTrue result (self.now.shown < MOST_STEPS) }
     {
-        (self.shown as usize) < MOST_STEPS && !holds_unless(marked, wanted)
+        (self.shown as usize) < MOST_STEPS && !and_not(marked, wanted)
     }
 
     /// A line that asks for nothing is behind it: the next command is wanted or not.

@@ -5,13 +5,13 @@ ghost use Rattle.rh_defs.specs.declared.sizes.TheConstants.{MAX_PAGES};
 ghost use Rattle.rh_figure.specs.Share.{count_of};
 ghost use Rattle.rh_sheet.specs.SheetAreas.{pages_sentence};
 ghost use Rattle.rh_sheet.specs.Markup.{escape};
-ghost use Rattle.rh_sight.specs.SightOwners.{shared_owner};
+ghost use Rattle.rh_scene.specs.SightOwners.{shared_owner};
 
 use rh_defs::sizes::MAX_PAGES;
-use rh_draw::put_escaped;
+use rh_elements::put_escaped;
 use rh_lines::{Pen, Row};
 use rh_map::add_numbers;
-use rh_sight::{Owner, Step};
+use rh_scene::{Owner, Step};
 
 /// An owner has a row for each of its pages, and for each that it has given back, of which no pool has more.
 pub fn rows_for(step: &Step<'_>, owner: Owner, pages: &[u16]) -> usize

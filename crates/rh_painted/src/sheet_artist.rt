@@ -6,10 +6,10 @@ ghost use Rattle.rh_sheet.specs.Tables.{letterbox_row, transfer_row};
 
 use crate::areas::print_area_heading;
 use rh_defs::{Name, Ref};
-use rh_draw::{print_change, print_letterbox_row, print_transfer_row};
 use rh_drawn::Artist;
+use rh_elements::{print_change, print_letterbox_row, print_transfer_row};
 use rh_lines::{Pen, Row};
-use rh_map::{MessageEntry, ScrapFile, Side, fixed_area_note, made_area_note};
+use rh_map::{MessageEntry, ScrapLine, Side, fixed_area_note, made_area_note};
 
 /// Shows each thing as an element of a sheet.
 pub struct SheetArtist;
@@ -31,7 +31,7 @@ impl Artist for SheetArtist {
         &self,
         number: u32,
         pages: &[u16],
-        scrap: Option<ScrapFile>,
+        scrap: Option<ScrapLine>,
         pen: &mut P,
     ) {
         print_area_heading(number, &fixed_area_note(pages, scrap), pen);

@@ -5,7 +5,7 @@ ghost use Rattle.std.specs.List.{AllByRecursion, flat_map};
 ghost use Rattle.rh_defs.specs.Desk.{Task};
 ghost use Rattle.rh_defs.specs.Slot.{anchor_count, slot_length};
 ghost use Rattle.rh_defs.specs.declared.question.BlockItem.{BlockItem};
-ghost use Rattle.rh_draw.specs.DrawRows.{plot_of};
+ghost use Rattle.rh_elements.specs.DrawRows.{plot_of};
 ghost use Rattle.rh_figure.specs.Figure.{slot_note};
 ghost use Rattle.rh_figure.specs.Scene.{Scene};
 ghost use Rattle.rh_painted.specs.Inner.Figures.{IsSlotPlan};
@@ -13,27 +13,27 @@ ghost use Rattle.rh_sheet.specs.SheetAreas.{slot_body, slot_description, slot_fi
 ghost use Rattle.rh_sheet.specs.SheetAreas.{ticks_text};
 ghost use Rattle.rh_sheet.specs.Markup.{escape, heading_text};
 ghost use Rattle.rh_sheet.specs.SheetSteps.{slot_part};
-ghost use Rattle.rh_sight.specs.Seen.{IsTaskSeen};
-ghost use Rattle.rh_sight.specs.Steps.{IsStepOf, scene_at};
+ghost use Rattle.rh_scene.specs.Seen.{IsTaskSeen};
+ghost use Rattle.rh_scene.specs.Steps.{IsStepOf, scene_at};
 
 use crate::arrows::print_arrow_of;
-use crate::bands::Form;
+use crate::bands::BandForm;
 use crate::rows::{put_pages, rows_for};
 use rh_defs::BlockItem;
 use rh_defs::sizes::{C_HEAP_PLACE, HEAP_FIRST, SLOT_START};
-use rh_draw::{
+use rh_drawn::{Band, Lists, count_tasks, show_flex_cards, show_heap_cards};
+use rh_elements::{
     Plot, Tint, foot, height, print_described, print_figure_end, print_figure_open, print_heading,
     print_lens_above, print_lens_below, print_rows, print_tick, put_escaped, row_y, top,
 };
-use rh_drawn::{Band, Lists, count_tasks, show_flex_cards, show_heap_cards};
 use rh_lines::{Pen, Row};
 use rh_map::{SlotHeading, add_size, add_slot_note};
-use rh_sheet::Frame;
-use rh_sheet::sizes::{FIGURE_WIDTH, LENS_HEIGHT};
-use rh_sight::{
+use rh_scene::{
     Census, HeapOf, Owner, PagesOf, Sight, Step, TaskSight, is_drawn, pages_of, slot_pieces,
     take_census,
 };
+use rh_sheet::Frame;
+use rh_sheet::sizes::{FIGURE_WIDTH, LENS_HEIGHT};
 
 /// What the figure of a task's slot is drawn from: the task's place in order of handle, its blocks, how the figure's
 /// parts stand, its rows, and how many segments its C heap has.
@@ -194,8 +194,8 @@ fn print_description<S: Sight, P: Pen>(
         handle: task.handle,
         taking: task.taking,
     };
-    show_heap_cards(sight, step, &band, &Form::Told, pen);
-    show_flex_cards(sight, step, plan.i, task, plan.blocks, &Form::Told, pen);
+    show_heap_cards(sight, step, &band, &BandForm::Told, pen);
+    show_flex_cards(sight, step, plan.i, task, plan.blocks, &BandForm::Told, pen);
 }
 
 /// Writes what leads to the cards, cards of flex blocks, rows, ticks, the arrow of a slide, and cards of the C heap.
@@ -215,12 +215,12 @@ fn print_body<S: Sight, P: Pen>(
     sight.spelled();
     let frame = plan.frame;
     print_lenses(sight, step, task, plan, pen);
-    let above = Form::Above(top(frame).saturating_sub(LENS_HEIGHT));
+    let above = BandForm::Above(top(frame).saturating_sub(LENS_HEIGHT));
     show_flex_cards(sight, step, plan.i, task, plan.blocks, &above, pen);
     print_rows(frame, &plan.plot, pen);
     print_ticks(row_y(frame, 0), plan.blocks, pen);
     print_arrow_of(step, frame, task.handle, plan.blocks, pen);
-    let below = Form::Below(foot(frame) + LENS_HEIGHT);
+    let below = BandForm::Below(foot(frame) + LENS_HEIGHT);
     let band = Band {
         heap: HeapOf::Task(plan.i),
         handle: task.handle,

@@ -5,16 +5,16 @@ ghost use Rattle.std.specs.List.{concat};
 ghost use Rattle.rh_drawn.specs.DrawnReplies.{Excerpts};
 ghost use Rattle.rh_figure.specs.Phrases.{where_so};
 ghost use Rattle.rh_sheet.specs.SheetSteps.{said_end, step_end, step_text};
-ghost use Rattle.rh_sight.specs.Steps.{IsStepOf, scene_at};
+ghost use Rattle.rh_scene.specs.Steps.{IsStepOf, scene_at};
 ghost use Rattle.rh_defs.specs.Post.{most_messages};
 
 use crate::figure::print_figure;
 use crate::notes::Notes;
 use crate::sheet_artist::SheetArtist;
-use rh_draw::{print_said, print_still};
 use rh_drawn::{Above, Lists, show_changes};
+use rh_elements::{print_said, print_still};
 use rh_lines::Pen;
-use rh_sight::{Sight, Step};
+use rh_scene::{Sight, Step};
 
 /// The end of what is said at a step.
 const SAID_END: &[u8] = b"</div>\n";

@@ -8,7 +8,7 @@ ghost use Rattle.rh_sheet.specs.Tables.{transfers_table};
 use crate::sheet_artist::SheetArtist;
 use rh_drawn::{has_transfers, show_transfers};
 use rh_lines::Pen;
-use rh_sight::Sight;
+use rh_scene::Sight;
 
 /// Writes the table of the transfers that go out, each with the side that comes in, and of those that only come in.
 pub fn print_transfers<S: Sight, P: Pen>(sight: &S, pen: &mut P)

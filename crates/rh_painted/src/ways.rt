@@ -23,7 +23,7 @@ pub const MOST_WAYS: usize = 2 * MOST_NOTES;
 /// An arrow of a chart: a message, by its ref, on its way from a task to a task, by their handles, or on its way back,
 /// between two steps, of which the second is 0 where it waits.
 #[derive(Clone, Copy)]
-pub struct Way {
+pub struct MessageArrow {
     pub start: u32,
     pub stop: u32,
     pub from: u32,
@@ -33,10 +33,10 @@ pub struct Way {
     pub is_back: bool,
 }
 
-impl Default for Way {
+impl Default for MessageArrow {
     /// The way of no message, as refs count up from 1.
-    fn default() -> Way {
-        Way {
+    fn default() -> MessageArrow {
+        MessageArrow {
             start: 0,
             stop: 0,
             from: 0,
@@ -49,7 +49,7 @@ impl Default for Way {
 }
 
 /// The arrows of a chart, in the order in which the messages were sent.
-pub type Ways = ArrayVec<Way, MOST_WAYS>;
+pub type Ways = ArrayVec<MessageArrow, MOST_WAYS>;
 
 /// The arrows of the last messages.
 pub fn ways_of(notes: &[Note]) -> Ways
@@ -67,10 +67,10 @@ pub fn ways_of(notes: &[Note]) -> Ways
 }
 
 /// A message on its way out.
-fn way_out(note: &Note) -> Way
+fn way_out(note: &Note) -> MessageArrow
     ensures { arrow_of result ≡ arrow_out note.now }
 {
-    Way {
+    MessageArrow {
         start: note.sent,
         stop: note.taken,
         from: note.from,
@@ -82,10 +82,10 @@ fn way_out(note: &Note) -> Way
 }
 
 /// A message on its way back.
-fn way_back(note: &Note) -> Way
+fn way_back(note: &Note) -> MessageArrow
     ensures { arrow_of result ≡ arrow_back note.now }
 {
-    Way {
+    MessageArrow {
         start: note.back,
         stop: note.ended,
         from: note.to,
@@ -96,7 +96,7 @@ fn way_back(note: &Note) -> Way
     }
 }
 
-impl Way {
+impl MessageArrow {
     /// The words of an arrow: the message's ref and action, and whether it comes back.
     pub fn words(&self) -> Row
         ensures value { result ≡ way_words self.now }
@@ -114,7 +114,7 @@ impl Way {
 }
 
 /// The steps at which arrows begin or end.
-pub fn steps_in(ways: &[Way]) -> NumberSet
+pub fn steps_in(ways: &[MessageArrow]) -> NumberSet
     requires { length ways.now ≤ MOST_WAYS }
     ensures { result.items ≡ steps_of (arrows_seen ways.now) }
 {
@@ -140,7 +140,7 @@ fn put_step(step: u32, steps: &mut NumberSet)
 }
 
 /// The tasks between which arrows go, by their handles.
-pub fn tasks_in(ways: &[Way]) -> NumberSet
+pub fn tasks_in(ways: &[MessageArrow]) -> NumberSet
     requires { length ways.now ≤ MOST_WAYS }
     ensures { result.items ≡ tasks_of (arrows_seen ways.now) }
 {

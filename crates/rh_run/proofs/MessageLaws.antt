@@ -10,7 +10,7 @@ use Rattle.rh_defs.specs.Order.{is_to}
 use Rattle.rh_defs.specs.Post.{Seat}
 use Rattle.rh_defs.specs.Desk.{Desk}
 use Rattle.rh_figure.specs.Scene as scene
-use Rattle.rh_sight.specs.SightMessages.{seen_item, message_items}
+use Rattle.rh_scene.specs.SightMessages.{seen_item, message_items}
 use Rattle.rh_wimp.specs.Chains.{held_list, seat_row}
 use Rattle.rh_wimp.specs.QueueItems as listed
 

@@ -8,8 +8,8 @@ use Rattle.rh_defs.specs.Laws.{IsDesk}
 use Rattle.rh_defs.specs.Pieces.{total}
 use Rattle.rh_figure.specs.Share.{Holding, IsShared, Owner, count_of, holdings, is_owner}
 use Rattle.rh_figure.specs.Share as share
-use Rattle.rh_sight.specs.SightPages.{pages_among, share_in}
-use Rattle.rh_sight.proofs.Holders.{among-at, counted, desk-apart, holdings-used}
+use Rattle.rh_scene.specs.SightPages.{pages_among, share_in}
+use Rattle.rh_scene.proofs.Holders.{among-at, counted, desk-apart, holdings-used}
 use Rattle.rh_store.specs.Shares as store
 
 -- ---- how often a page stands in a list

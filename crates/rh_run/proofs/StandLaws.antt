@@ -8,8 +8,8 @@ use Rattle.rh_defs.specs.Laws.{IsDesk}
 use Rattle.rh_defs.specs.Memory.{IsOpen, Memory, bytes}
 use Rattle.rh_defs.specs.Pieces.{page_size}
 use Rattle.rh_figure.specs.Share.{Holding, IsShared, fixed_holding, holdings}
-use Rattle.rh_sight.specs.Inner.Holdings.{made_holding, slot_holding}
-use Rattle.rh_sight.specs.SightPages.{share_in}
+use Rattle.rh_scene.specs.Inner.Holdings.{made_holding, slot_holding}
+use Rattle.rh_scene.specs.SightPages.{share_in}
 use Rattle.rh_tasks.specs.Shown.{IsSpelled, Shown, SpellSlots, length_of_area}
 use Rattle.rh_store.specs.Shares.{SharesOut}
 use Rattle.rh_store.specs.declared.store.AreaId.{AreaId}

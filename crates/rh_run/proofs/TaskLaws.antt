@@ -23,11 +23,11 @@ use Rattle.rh_defs.specs.Post.{post_is_message}
 use Rattle.rh_defs.specs.Slot.{Flex, Slot, flex_start, heap_start, weight}
 use Rattle.rh_defs.proofs.Cuts.{total-append}
 use Rattle.rh_defs.proofs.HeapLists.{first_at-found}
-use Rattle.rh_sight.specs.declared.sight.HeapOf.{HeapOf}
-use Rattle.rh_sight.specs.declared.sight.HeapOf.TheVariants as heap_of
-use Rattle.rh_sight.specs.Seen.{SeesBlock, HasFlex, IsBlockAt, heap_seen}
-use Rattle.rh_sight.proofs.Heaps as heaps
-use Rattle.rh_tasks.specs.declared.sights.TaskSight.{TaskSight}
+use Rattle.rh_scene.specs.declared.sight.HeapOf.{HeapOf}
+use Rattle.rh_scene.specs.declared.sight.HeapOf.TheVariants as heap_of
+use Rattle.rh_scene.specs.Seen.{SeesBlock, HasFlex, IsBlockAt, heap_seen}
+use Rattle.rh_scene.proofs.Heaps as heaps
+use Rattle.rh_tasks.specs.declared.sights.LiveTask.{LiveTask}
 use Rattle.rh_tasks.specs.WorldLists.{items_at, segment_items_at}
 use Rattle.rh_tasks.specs.Sights.{IsSeen, blocks_in, module_shown, segments_in, slot_bytes}
 use Rattle.rh_tasks.proofs.Chains.{begins, past}
@@ -36,7 +36,7 @@ use Rattle.rh_tasks.proofs.ModuleCommands.{unmarked-is}
 use Rattle.rh_run.proofs.SegmentLaws.{from_place}
 
 -- ---- a task that is seen
-pub there : (s : TaskSight) (o : Option Task) → IsSeen (Some s) o → (t : Task) × (o ≡ Some t)
+pub there : (s : LiveTask) (o : Option Task) → IsSeen (Some s) o → (t : Task) × (o ≡ Some t)
 there s None seen = absurd seen
 there s (Some t) seen = (t, refl)
 

@@ -5,12 +5,12 @@ ghost use Rattle.rh_defs.specs.Memory.{fresh};
 ghost use Rattle.rh_defs.specs.declared.sizes.TheConstants.{MAX_PAGES, MIN_PAGES};
 ghost use Rattle.rh_pages.specs.Paged.{paged_memory};
 
-use rh_mapped::Mapped;
+use rh_heap_index::IndexedStore;
 use rh_pages::PagedStore;
 use std::alloc::{AllocError, Global};
 
 /// Scattered pages, with a map beside each heap.
-pub type PageStore = Mapped<PagedStore>;
+pub type PageStore = IndexedStore<PagedStore>;
 
 /// A fresh store of 8 to 1,024 pages. All memory of a run is taken here: AllocError where it is refused.
 pub fn page_store(alloc: Global, pages: u32) -> Result<PageStore, AllocError>
@@ -19,5 +19,5 @@ pub fn page_store(alloc: Global, pages: u32) -> Result<PageStore, AllocError>
     ensures { IfOk result (λ store. paged_memory store ≡ fresh pages) }
 {
     let store = PagedStore::new(alloc, pages as usize)?;
-    Mapped::new(alloc, store)
+    IndexedStore::new(alloc, store)
 }

@@ -4,7 +4,8 @@ use Rattle.rh_safety.proofs.Common.{Acknowledge, Active, AnchorInUse, Append, As
 use Rattle.rh_safety.proofs.Common.{Has, OnGrant}
 use Rattle.rh_safety.proofs.Common.{Incoming, LoadFile, NoTask, None, Ok, Option, Outcome, Part, Recorded, Refusal, SaveFile, Scrap, Sending, Split, Flex}
 use Rattle.rh_safety.proofs.Common.{Some, TakeAction, Taking, Task, Transmit, User, accept, ack_back, active_is, and_right, answers_none, append, appended}
-use Rattle.rh_safety.proofs.Common.{ask, asking_is, buffer_at, came, came_back, drains, drop, either, fail_sending, false, fetch_letter, fetch_more, fetches}
+use Rattle.rh_safety.proofs.Common.{ask, asking_is, buffer_at, delivered, bounced_to, drains}
+use Rattle.rh_safety.proofs.Common.{drop, either, fail_sending, false, fetch_letter, fetch_more, fetches}
 use Rattle.rh_safety.proofs.Common.{free_anchor, free_pages, granted, granted-past, granted-then, handled, heap_block_at, ignored, inl, inr}
 use Rattle.rh_safety.proofs.Common.{is_deaf, is_equal, is_found, is_full, is_going, is_some, length, load_file, load_letter, loaded, next_ref, not, open_is}
 use Rattle.rh_safety.proofs.Common.{open_of, option_map, or_else-keeps, perform_send, perform_take, refl, save_scrap, scrap_shortage, send_letter, send_with}
@@ -398,8 +399,8 @@ module _ (d : Desk) (t : Task) (m : Parcel) where
   unasked file (Some q) e =
       let w = asking_is (λ (q : Asked). q.ack == my) t.taking q e in abandons q outcome.Failed (record { found = e; has = w.0; passes = w.1 }) tt
 
-  came-acts : (b : Body) → Act false b (came d t m b)
-  unfolding came
+  came-acts : (b : Body) → Act false b (delivered d t m b)
+  unfolding delivered
   came-acts (body.DataSave file) = claimed file
   came-acts (body.DataSaveAck file) = filed file _ refl
   came-acts (body.DataLoad file) = asked file _ refl
@@ -409,8 +410,8 @@ module _ (d : Desk) (t : Task) (m : Parcel) where
       (λ none. skips (record { open_ = λ x has. rw none refl; active = λ f has. refl; asking = λ q has. refl })) (λ some. fetched buffer n some _ refl)
   came-acts (body.RamTransmit buffer n) = transmitted buffer n _ refl
 
-  came_back-acts : (b : Body) → Act true b (came_back d t m b)
-  unfolding came_back
+  came_back-acts : (b : Body) → Act true b (bounced_to d t m b)
+  unfolding bounced_to
   came_back-acts (body.DataSave file) = failed (λ f. refl) (λ q. refl) _ refl
   came_back-acts (body.DataSaveAck file) = unasked file _ refl
   came_back-acts (body.DataLoad file) = failed (λ f. refl) (λ q. refl) _ refl

@@ -42,7 +42,7 @@ unfoldable pub use Rattle.rh_defs.specs.Slot.{slot_alloc, slot_block, slot_claim
 pub use Rattle.rh_defs.specs.Commands.{step}
 unfoldable pub use Rattle.rh_defs.specs.Commands.{cancel_in, cancel_out, poll, poll_taken, repeat, save}
 pub use Rattle.rh_defs.specs.Transfer.{answers_none}
-unfoldable pub use Rattle.rh_defs.specs.Transfer.{came, came_back, handled}
+unfoldable pub use Rattle.rh_defs.specs.Transfer.{delivered, bounced_to, handled}
 pub use Rattle.rh_defs.specs.declared.command.Command.{Command}
 pub use Rattle.rh_defs.specs.declared.command.Manner.{Manner}
 pub use Rattle.rh_defs.specs.declared.message.Body.{Body}

@@ -6,7 +6,7 @@ use Rattle.rh_safety.proofs.Common.{bounce_all, without_block, taken_from, queue
 use Rattle.rh_safety.proofs.Common.{Scrap, next_ref, free_pages, with_slot, with_task, with_delivered, send_letter, Handled, Transmit, SaveFile, SendAction}
 use Rattle.rh_safety.proofs.Common.{Claim, Append, Fetch, Next, LoadFile, TakeAction, transmit, save_scrap, send_with, perform_send, fail_sending}
 use Rattle.rh_safety.proofs.Common.{taking_ended, accept, appended, fetch_more, took, append, ask, ack_back, loaded, load_file, take_with, perform_take}
-use Rattle.rh_safety.proofs.Common.{came, came_back, handled, Answer, start_task, kill, make, save, repeat, poll, poll_taken, cancel_in, cancel_out, step}
+use Rattle.rh_safety.proofs.Common.{delivered, bounced_to, handled, Answer, start_task, kill, make, save, repeat, poll, poll_taken, cancel_in, cancel_out, step}
 use Rattle.rh_safety.proofs.Common.{after, start_with, Always, OnGrant, granted, granted-then, granted-with, granted-past, or_else-keeps, chosen}
 use Rattle.rh_defs.specs.declared.command.Command.TheVariants as command
 use Rattle.rh_defs.specs.declared.message.Body.TheVariants.{DataSave, DataSaveAck, DataLoad, DataLoadAck, RamFetch, RamTransmit}
@@ -22,7 +22,7 @@ use Rattle.rh_defs.specs.Sender.{transfer_of}
 use Rattle.rh_defs.specs.Post.{first_for}
 use Rattle.rh_defs.specs.Desk.{with_module}
 use Rattle.rh_defs.specs.OutgoingEvents.{refused as failed_by}
-use Rattle.rh_defs.specs.IncomingEvents.{told}
+use Rattle.rh_defs.specs.IncomingEvents.{outcome_of_end}
 use Rattle.rh_defs.specs.Commands.{change}
 use Rattle.rh_defs.proofs.Chains.{granted-both}
 use Rattle.rh_safety.proofs.LiveRefs.{OneEach, live_with, own-refs, no_more-one, posted-one, join-one, poll-fewer, death-fewer}
@@ -158,9 +158,9 @@ quiet {d} {e} {o} s none = record {
 
 -- a message more, whose ref is told
 tells : {d sent e : Desk} {o : Outcome} → SentOne d sent → Stands sent e → refs_of_outcome o ≡ next_ref d ∷ [] → Marks d (e, o)
-tells {d} {sent} {e} {o} one s told = record {
+tells {d} {sent} {e} {o} one s outcome_of_end = record {
   handle = s.handle ∙ one.handle;
-  refs = subst (GoUp (next_ref d) (next_ref e)) (sym told) (one-of (next_ref d) (next_ref e) (s.ref ∙ one.ref));
+  refs = subst (GoUp (next_ref d) (next_ref e)) (sym outcome_of_end) (one-of (next_ref d) (next_ref e) (s.ref ∙ one.ref));
   area = s.area ∙ one.area;
   mail = λ is. s.mail (one.mail is);
 }
@@ -183,7 +183,7 @@ past {d} {e} {h} s m = record {
 }
 
 -- a transfer that ends early tells no ref
-ending-quiet : (e : Ending) → refs_of_outcome (told e) ≡ []
+ending-quiet : (e : Ending) → refs_of_outcome (outcome_of_end e) ≡ []
 ending-quiet ending.Drained = refl
 ending-quiet _ = refl
 
@@ -296,8 +296,8 @@ module _ (d : Desk) (t : Task) where
   perform_take-marks None = ignored-marks d t
   perform_take-marks (Some a) = take_with-marks a
 
-  came-marks : (m : Parcel) (body : Body) → Marks d (came d t m body)
-  unfolding came
+  came-marks : (m : Parcel) (body : Body) → Marks d (delivered d t m body)
+  unfolding delivered
   came-marks m (DataSave file) = perform_take-marks _
   came-marks m (DataSaveAck file) = perform_send-marks d t _
   came-marks m (DataLoad file) = perform_take-marks _
@@ -305,8 +305,8 @@ module _ (d : Desk) (t : Task) where
   came-marks m (RamFetch buffer amount) = chosen (Marks d) _ _ _ (ignored-marks d t) (perform_send-marks d t _)
   came-marks m (RamTransmit buffer n) = perform_take-marks _
 
-  came_back-marks : (m : Parcel) (body : Body) → Marks d (came_back d t m body)
-  unfolding came_back
+  came_back-marks : (m : Parcel) (body : Body) → Marks d (bounced_to d t m body)
+  unfolding bounced_to
   came_back-marks m (DataSave file) = fail_sending-marks d t _
   came_back-marks m (DataSaveAck file) = ack_back-marks d t _
   came_back-marks m (DataLoad file) = fail_sending-marks d t _

@@ -29,7 +29,7 @@ use Rattle.rh_defs.specs.Slot.{lacks_room, length_with, holds}
 use Rattle.rh_defs.specs.Sender as sender
 use Rattle.rh_defs.specs.Places.{overlap}
 use Rattle.rh_defs.specs.OutgoingEvents.{is_out_of_reach}
-use Rattle.rh_defs.specs.IncomingEvents.{told}
+use Rattle.rh_defs.specs.IncomingEvents.{outcome_of_end}
 use Rattle.rh_defs.specs.Transfer as transfer
 use Rattle.rh_safety.specs.Buffers.{outcome_refusal, failed_by, HasGoodRanges}
 use Rattle.rh_safety.specs.Polls.{LosesNoBlock}
@@ -172,8 +172,8 @@ Fine x = is_bad_outcome x.1 ≡ false
 fine_or : {g : Granted Handled} (instead : Refusal → Handled) → Sound Fine g → ((r : Refusal) → is_fault r ≡ false → Fine (instead r)) →
     Fine (or_else g instead)
 unfolding or_else
-fine_or instead (grants fine) told = fine
-fine_or instead (refuses {r = r} none) told = told r none
+fine_or instead (grants fine) outcome_of_end = fine
+fine_or instead (refuses {r = r} none) outcome_of_end = outcome_of_end r none
 
 -- the source of an action is there, and the buffer that a fetch names
 abbrev HasSource : Desk → Task → SendAction → Type 0
@@ -273,7 +273,7 @@ module _ (d : Desk) (t : Task) where
       (fine_or _ (bind_ok _ (appended_ok d t a.transfer.anchor file.bytes there) λ after e.
       grants (loaded_fine (record after { scrap = None }) t a _)) (λ r q. q)) refl
 
-  ending_fine : (e : Ending) → is_bad_outcome (told e) ≡ false
+  ending_fine : (e : Ending) → is_bad_outcome (outcome_of_end e) ≡ false
   ending_fine ending.Drained = refl
   ending_fine _ = refl
 
@@ -292,8 +292,8 @@ module _ (d : Desk) (t : Task) where
 
   -- ---- a message that came back
 
-  came_back_fine : (m : Parcel) (b : Body) → Fine (transfer.came_back d t m b)
-  unfolding transfer.came_back
+  came_back_fine : (m : Parcel) (b : Body) → Fine (transfer.bounced_to d t m b)
+  unfolding transfer.bounced_to
   came_back_fine m (body.DataSave file) = fail_fine d t _
   came_back_fine m (body.DataSaveAck file) = ack_back_fine d t _
   came_back_fine m (body.DataLoad file) = fail_fine d t _
@@ -338,8 +338,8 @@ module _ {o : Offered} {e : ℕ → ℕ → Bool} (d : Desk) (t : Task) (m : Par
       block_there_in d t is x.anchor (take 0 s.all) s.there
 
   came_fine : (is : task_of t.handle d.tasks ≡ Some t) (b : Body) → Taken o e (view d) t.handle (letter_of m b) →
-      Fine (transfer.came d t m b)
-  unfolding transfer.came
+      Fine (transfer.delivered d t m b)
+  unfolding transfer.delivered
   came_fine is (body.DataSave file) tk = perform_take_fine d t _ (save-does (HasDocument t) t.taking _ _ _ tt)
   came_fine is (body.DataSaveAck file) tk =
       perform_send_fine d t _

@@ -6,7 +6,7 @@ use Rattle.rh_safety.proofs.Common.{◌>>◌, refuse_if, found_or, or_else, Spli
 use Rattle.rh_safety.proofs.Common.{fetch_letter, transmit_letter, load_letter, out_id, in_id, is_open, is_full, with_id, open_of, buffer_at, free_anchor}
 use Rattle.rh_safety.proofs.Common.{Desk, Task, Scrap, next_ref, free_pages, has_name, named, task_at, with_task, with_slot, with_sending, with_taking}
 use Rattle.rh_safety.proofs.Common.{with_delivered, send_letter, Answer, Handled, ignored, refused, scrap_shortage, wider, perform_send, perform_take}
-use Rattle.rh_safety.proofs.Common.{Transmit, Part, SaveFile, Claim, LoadFile, is_deaf, appended, loaded, answers_none, came, came_back, save, cancel_in}
+use Rattle.rh_safety.proofs.Common.{Transmit, Part, SaveFile, Claim, LoadFile, is_deaf, appended, loaded, answers_none, delivered, bounced_to, save, cancel_in}
 use Rattle.rh_safety.proofs.Common.{step, Offers, Edits}
 use Rattle.std.specs.List.{list_all}
 use Rattle.rh_defs.specs.declared.refusal.Refusal.TheVariants.{NotOpen}
@@ -56,15 +56,15 @@ abbrev came_by : Rules → Desk → Task → Parcel → Body → Handled
 came_by rules d t m (body.DataSave file) = rules.takes_save d t m
 came_by rules d t m (body.DataSaveAck file) = rules.answers_ack d t m
 came_by rules d t m (body.DataLoad file) = rules.takes_file d t m
-came_by rules d t m (body.DataLoadAck file) = came d t m (body.DataLoadAck file)
+came_by rules d t m (body.DataLoadAck file) = delivered d t m (body.DataLoadAck file)
 came_by rules d t m (body.RamFetch buffer amount) = if answers_none t.manner then ignored d else rules.answers_fetch d
     t m buffer amount
-came_by rules d t m (body.RamTransmit buffer n) = came d t m (body.RamTransmit buffer n)
+came_by rules d t m (body.RamTransmit buffer n) = delivered d t m (body.RamTransmit buffer n)
 
 abbrev handled_by : Rules → Desk → Task → Parcel → EventCode → Handled
 handled_by rules d t m User = came_by rules d t m m.message.body
 handled_by rules d t m Recorded = came_by rules d t m m.message.body
-handled_by rules d t m Acknowledge = came_back d t m m.message.body
+handled_by rules d t m Acknowledge = bounced_to d t m m.message.body
 
 abbrev taken_by : Rules → Desk → Task → Option Parcel → Answer
 taken_by rules d t None = (d, reply.NoEvent)

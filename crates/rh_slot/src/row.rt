@@ -101,7 +101,7 @@ fn highest(anchors: &[u8]) -> Anchor
 }
 
 /// Writes the anchor words of the blocks that lie in `n` bytes, each by itself.
-fn hang_short<S: WordsMut>(store: &mut S, area: AreaId, from: usize, n: usize)
+fn write_anchors_short<S: WordsMut>(store: &mut S, area: AreaId, from: usize, n: usize)
     requires opened { IsOpen (S.memory store.old) area.0 }
     requires within { from + n ≤ length (bytes (S.memory store.old) area.0) }
     requires low { C_HEAP_PLACE ≤ from }
@@ -124,7 +124,7 @@ fn hang_short<S: WordsMut>(store: &mut S, area: AreaId, from: usize, n: usize)
 /// Writes a block's address into anchor words that were lent, by what its header says: the address of its anchor word,
 /// and its size. Answers where the next block stands.
 #[inline(always)]
-fn hang_one(anchors: &mut [u8], place: usize, anchor: usize, size: usize) -> usize
+fn write_anchor(anchors: &mut [u8], place: usize, anchor: usize, size: usize) -> usize
     requires least { SLOT_START ≤ anchor }
     requires within { anchor - SLOT_START + WORD ≤ length anchors.old }
     requires small { place < 2 ^ 31 }
@@ -139,7 +139,7 @@ fn hang_one(anchors: &mut [u8], place: usize, anchor: usize, size: usize) -> usi
 
 /// Writes into anchor words that were lent those of the blocks from a place on whose headers lie whole in that place's
 /// page. The blocks end `n` bytes above `from`. Answers where the next one stands.
-fn hang_in_page<S: Paged>(
+fn write_anchors_in_page<S: Paged>(
     store: &S,
     area: AreaId,
     anchors: &mut [u8],
@@ -164,7 +164,7 @@ fn hang_in_page<S: Paged>(
     'walk: while place + FLEX_HEADER <= top {
         let anchor = word_in(page, place - start) as usize;
         let size = word_in(page, place - start + WORD) as usize;
-        place = hang_one(anchors, place, anchor, size);
+        place = write_anchor(anchors, place, anchor, size);
     }
     place
 }
@@ -172,7 +172,7 @@ fn hang_in_page<S: Paged>(
 /// Writes the anchor words of the blocks that lie in `n` bytes, all at the end. Out of line, so that its buffer is no
 /// part of callers whose rows are short.
 #[inline(never)]
-fn hang_long<S: Pages>(store: &mut S, area: AreaId, from: usize, n: usize)
+fn write_anchors_long<S: Pages>(store: &mut S, area: AreaId, from: usize, n: usize)
     requires opened { IsOpen (S.memory store.old) area.0 }
     requires within { from + n ≤ length (bytes (S.memory store.old) area.0) }
     requires low { C_HEAP_PLACE ≤ from }
@@ -187,14 +187,14 @@ fn hang_long<S: Pages>(store: &mut S, area: AreaId, from: usize, n: usize)
     'walk: while place < from + n {
         let anchor = read(store, area, place);
         let size = read(store, area, place + WORD);
-        let behind = hang_one(&mut anchors, place, anchor, size);
-        place = hang_in_page(store, area, &mut anchors, from, n, behind);
+        let behind = write_anchor(&mut anchors, place, anchor, size);
+        place = write_anchors_in_page(store, area, &mut anchors, from, n, behind);
     }
     write_bytes(store, area, 0, &anchors);
 }
 
 /// Writes the anchor words of the blocks that lie in `n` bytes.
-fn hang<S: Pages>(store: &mut S, area: AreaId, from: usize, n: usize)
+fn write_anchors<S: Pages>(store: &mut S, area: AreaId, from: usize, n: usize)
     requires opened { IsOpen (S.memory store.old) area.0 }
     requires within { from + n ≤ length (bytes (S.memory store.old) area.0) }
     requires low { C_HEAP_PLACE ≤ from }
@@ -204,9 +204,9 @@ fn hang<S: Pages>(store: &mut S, area: AreaId, from: usize, n: usize)
     ensures only { Edited (S.memory store.old) (S.memory store.new) area.0 0 C_HEAP_PLACE }
 {
     if n < SHORT_ROW {
-        hang_short(store, area, from, n);
+        write_anchors_short(store, area, from, n);
     } else {
-        hang_long(store, area, from, n);
+        write_anchors_long(store, area, from, n);
     }
 }
 
@@ -224,7 +224,7 @@ pub fn shift<S: Pages>(store: &mut S, area: AreaId, from: usize, to: usize, n: u
     ensures only { Edited (S.memory store.old) (S.memory store.new) area.0 0 (to + n) }
 {
     slide(store, area, from, to, n);
-    hang(store, area, to, n);
+    write_anchors(store, area, to, n);
 }
 
 impl Slot {

@@ -7,7 +7,7 @@ use Rattle.rh_defs.specs.Post as post
 use Rattle.rh_defs.specs.Runs.{start_with}
 use Rattle.rh_defs.specs.Laws.{IsStart}
 use Rattle.rh_defs.proofs.Steps.{start-is}
-use Rattle.rh_tasks.specs.declared.next.Next.{Next}
+use Rattle.rh_tasks.specs.declared.next_numbers.NextNumbers.{Next}
 use Rattle.rh_wimp.proofs.PostCalls.{post_in-starts}
 use Rattle.rh_tasks.specs.Inner.Start.{IsFurnished}
 

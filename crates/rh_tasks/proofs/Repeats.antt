@@ -11,7 +11,7 @@ use Rattle.rh_defs.specs.Commands.{repeat}
 use Rattle.rh_wimp.specs.QueueCalls.{LeavesChains}
 use Rattle.rh_tasks.specs.declared.seat.SentLetter.{SentLetter}
 use Rattle.rh_tasks.specs.View.{last_of}
-use Rattle.rh_tasks.specs.declared.next.Next.{Next}
+use Rattle.rh_tasks.specs.declared.next_numbers.NextNumbers.{Next}
 use Rattle.rh_tasks.specs.WorldLetters.{from_last, again}
 use Rattle.rh_tasks.proofs.Chains.{answered, answer-refused}
 use Rattle.rh_tasks.proofs.Posts.{is-post, has-entry}

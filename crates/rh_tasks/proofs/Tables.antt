@@ -12,7 +12,7 @@ use Rattle.rh_defs.specs.Sender as sender
 use Rattle.rh_defs.specs.Receiver as receiver
 use Rattle.rh_defs.specs.OutgoingEvents.{perform_send, fail_sending}
 use Rattle.rh_defs.specs.IncomingEvents.{is_deaf, perform_take, ack_back}
-use Rattle.rh_defs.specs.Transfer.{answers_none, came, came_back, handled}
+use Rattle.rh_defs.specs.Transfer.{answers_none, delivered, bounced_to, handled}
 use Rattle.rh_tasks.proofs.Places.{mapped-inside}
 
 -- what was done gives the desk, but for the order of messages to different tasks, and the outcome
@@ -22,25 +22,26 @@ As after last outcome = (outcome ≡ after.1) × IsReordered after.0 last
 -- ---- by code
 
 pub user-or-recorded : (d : Desk) (t : Task) (p : Parcel) (code : EventCode) → (code ≡ User) ⊎ (code ≡ Recorded) → (last : Desk) {outcome : Outcome}
-    → As (came d t p p.message.body) last outcome → As (handled d t p code) last outcome
+    → As (delivered d t p p.message.body) last outcome → As (handled d t p code) last outcome
 unfolding handled
 user-or-recorded d t p code (inl e) last h = rw e h
 user-or-recorded d t p code (inr e) last h = rw e h
 
 pub acknowledged : (d : Desk) (t : Task) (p : Parcel) (code : EventCode) → code ≡ Acknowledge → (last : Desk) {outcome : Outcome}
-    → As (came_back d t p p.message.body) last outcome → As (handled d t p code) last outcome
+    → As (bounced_to d t p p.message.body) last outcome → As (handled d t p code) last outcome
 unfolding handled
 acknowledged d t p code e last h = rw e h
 
 -- ---- by action
 
 module _ {d : Desk} {i : ℕ} {t : Task} {p : Parcel} {message : Message} (for : IsFor i t d p message) where
-  came-as : {last : Desk} {outcome : Outcome} {b : Body} → message.body ≡ b → As (came d t p b) last outcome → As (came d t p p.message.body) last outcome
-  came-as {last} {outcome} e h = subst (λ b. As (came d t p b) last outcome) (sym (ap (λ (x : Message). x.body) for.message_is ∙ e)) h
+  came-as : {last : Desk} {outcome : Outcome} {b : Body} → message.body ≡ b → As (delivered d t p b) last outcome
+      → As (delivered d t p p.message.body) last outcome
+  came-as {last} {outcome} e h = subst (λ b. As (delivered d t p b) last outcome) (sym (ap (λ (x : Message). x.body) for.message_is ∙ e)) h
 
-  back-as : {last : Desk} {outcome : Outcome} {b : Body} → message.body ≡ b → As (came_back d t p b) last outcome
-      → As (came_back d t p p.message.body) last outcome
-  back-as {last} {outcome} e h = subst (λ b. As (came_back d t p b) last outcome) (sym (ap (λ (x : Message). x.body) for.message_is ∙ e)) h
+  back-as : {last : Desk} {outcome : Outcome} {b : Body} → message.body ≡ b → As (bounced_to d t p b) last outcome
+      → As (bounced_to d t p p.message.body) last outcome
+  back-as {last} {outcome} e h = subst (λ b. As (bounced_to d t p b) last outcome) (sym (ap (λ (x : Message). x.body) for.message_is ∙ e)) h
 
   -- ---- messages that came back
 
@@ -48,28 +49,28 @@ module _ {d : Desk} {i : ℕ} {t : Task} {p : Parcel} {message : Message} (for :
   pub sender-back : {last : Desk} {outcome : Outcome}
       → ((file : FileData) × (message.body ≡ DataSave file)) ⊎ (((file : FileData) × (message.body ≡ DataLoad file)) ⊎
       ((buffer : ℕ) × (n : ℕ) × (message.body ≡ RamTransmit buffer n)))
-      → As (fail_sending d t (sender.on_sending_bounce message.my_ref t.sending)) last outcome → As (came_back d t p p.message.body) last outcome
-  unfolding came_back
+      → As (fail_sending d t (sender.on_sending_bounce message.my_ref t.sending)) last outcome → As (bounced_to d t p p.message.body) last outcome
+  unfolding bounced_to
   sender-back {last} {outcome} k h = go k
     where
       own : As (fail_sending d t (sender.on_sending_bounce p.message.my_ref t.sending)) last outcome
       own = subst (λ (y : Message). As (fail_sending d t (sender.on_sending_bounce y.my_ref t.sending)) last outcome) (sym for.message_is) h
 
       go : ((file : FileData) × (message.body ≡ DataSave file)) ⊎ (((file : FileData) × (message.body ≡ DataLoad file)) ⊎
-          ((buffer : ℕ) × (n : ℕ) × (message.body ≡ RamTransmit buffer n))) → As (came_back d t p p.message.body) last outcome
+          ((buffer : ℕ) × (n : ℕ) × (message.body ≡ RamTransmit buffer n))) → As (bounced_to d t p p.message.body) last outcome
       go (inl k) = back-as k.1 own
       go (inr (inl k)) = back-as k.1 own
       go (inr (inr (buffer, n, e))) = back-as e own
 
   pub ack-back : {last : Desk} {outcome : Outcome} {file : FileData} → message.body ≡ DataSaveAck file
-      → As (ack_back d t (receiver.on_ack_bounce message.my_ref t.taking)) last outcome → As (came_back d t p p.message.body) last outcome
-  unfolding came_back
+      → As (ack_back d t (receiver.on_ack_bounce message.my_ref t.taking)) last outcome → As (bounced_to d t p p.message.body) last outcome
+  unfolding bounced_to
   ack-back {last} {outcome} e h =
       back-as e (subst (λ (y : Message). As (ack_back d t (receiver.on_ack_bounce y.my_ref t.taking)) last outcome) (sym for.message_is) h)
 
   pub load-ack-back : {last : Desk} {outcome : Outcome} {file : FileData} → message.body ≡ DataLoadAck file → As (ignored d) last outcome
-      → As (came_back d t p p.message.body) last outcome
-  unfolding came_back
+      → As (bounced_to d t p p.message.body) last outcome
+  unfolding bounced_to
   load-ack-back e h = back-as e h
 
 -- ---- by the records of the seat that the task sits on
@@ -99,27 +100,27 @@ module _ {m : Memory} {seats : List Seat} {made : List MadeArea} {files : FileLi
 
   pub save-came : {last : Desk} {outcome : Outcome} {file : FileData} {deaf : Bool} {a : Option TakeAction} → message.body ≡ DataSave file
       → deaf ≡ is_deaf s.manner → a ≡ receiver.on_save deaf message.from message.my_ref s.taking → As (perform_take d t a) last outcome
-      → As (came d t p p.message.body) last outcome
-  unfolding came task_of
+      → As (delivered d t p p.message.body) last outcome
+  unfolding delivered task_of
   save-came e k q h =
       came-as for e (takes (λ y z. receiver.on_save (is_deaf z.manner) y.from y.my_ref z.taking)
       (q ∙ ap (λ b. receiver.on_save b message.from message.my_ref s.taking) k) h)
 
   pub ack-came : {last : Desk} {outcome : Outcome} {file : FileData} {a : Option SendAction} → message.body ≡ DataSaveAck file
       → a ≡ sender.on_ack message.from message.my_ref message.your_ref s.sending → As (perform_send d t a) last outcome
-      → As (came d t p p.message.body) last outcome
-  unfolding came task_of
+      → As (delivered d t p p.message.body) last outcome
+  unfolding delivered task_of
   ack-came e q h = came-as for e (sends (λ y z. sender.on_ack y.from y.my_ref y.your_ref z.sending) q h)
 
   pub load-came : {last : Desk} {outcome : Outcome} {file : FileData} {a : Option TakeAction} → message.body ≡ DataLoad file
       → a ≡ receiver.on_load message.from message.my_ref message.your_ref s.taking → As (perform_take d t a) last outcome
-      → As (came d t p p.message.body) last outcome
-  unfolding came task_of
+      → As (delivered d t p p.message.body) last outcome
+  unfolding delivered task_of
   load-came e q h = came-as for e (takes (λ y z. receiver.on_load y.from y.my_ref y.your_ref z.taking) q h)
 
   pub load-ack-came : {last : Desk} {outcome : Outcome} {file : FileData} {a : Option SendAction} → message.body ≡ DataLoadAck file
-      → a ≡ sender.on_load_ack message.from message.your_ref s.sending → As (perform_send d t a) last outcome → As (came d t p p.message.body) last outcome
-  unfolding came task_of
+      → a ≡ sender.on_load_ack message.from message.your_ref s.sending → As (perform_send d t a) last outcome → As (delivered d t p p.message.body) last outcome
+  unfolding delivered task_of
   load-ack-came e q h = came-as for e (sends (λ y z. sender.on_load_ack y.from y.your_ref z.sending) q h)
 
   abbrev fetch_of : ℕ → ℕ → Message → Task → Handled
@@ -128,30 +129,30 @@ module _ {m : Memory} {seats : List Seat} {made : List MadeArea} {files : FileLi
 
   -- the fetch isn't answered by a task of files
   pub fetch-ignored : {last : Desk} {outcome : Outcome} {buffer amount : ℕ} → message.body ≡ RamFetch buffer amount → answers_none s.manner ≡ true
-      → As (ignored d) last outcome → As (came d t p p.message.body) last outcome
-  unfolding came task_of
+      → As (ignored d) last outcome → As (delivered d t p p.message.body) last outcome
+  unfolding delivered task_of
   fetch-ignored {last} {outcome} {buffer} {amount} e q h =
       let ignored_is : fetch_of buffer amount message (task_of m s) ≡ ignored d = rw q refl in
       came-as for e (subst (λ x. As x last outcome) (sym ignored_is ∙ meant (fetch_of buffer amount)) h)
 
   pub fetch-came : {last : Desk} {outcome : Outcome} {buffer amount : ℕ} {a : Option SendAction} → message.body ≡ RamFetch buffer amount
       → answers_none s.manner ≡ false → a ≡ sender.on_fetch message.from message.my_ref message.your_ref buffer amount s.sending
-      → As (perform_send d t a) last outcome → As (came d t p p.message.body) last outcome
-  unfolding came task_of
+      → As (perform_send d t a) last outcome → As (delivered d t p p.message.body) last outcome
+  unfolding delivered task_of
   fetch-came {last} {outcome} {buffer} {amount} {a} e n q h =
       let answered_is : fetch_of buffer amount message (task_of m s) ≡ perform_send d t a = rw (n, q) refl in
       came-as for e (subst (λ x. As x last outcome) (sym answered_is ∙ meant (fetch_of buffer amount)) h)
 
   pub bytes-came : {last : Desk} {outcome : Outcome} {buffer n : ℕ} {a : Option TakeAction} → message.body ≡ RamTransmit buffer n
       → a ≡ receiver.on_transmit s.buffer message.from message.my_ref message.your_ref buffer n s.taking
-      → As (perform_take d t a) last outcome → As (came d t p p.message.body) last outcome
-  unfolding came task_of
+      → As (perform_take d t a) last outcome → As (delivered d t p p.message.body) last outcome
+  unfolding delivered task_of
   bytes-came {buffer = buffer} {n = n} e q h =
       came-as for e (takes (λ y z. receiver.on_transmit z.buffer y.from y.my_ref y.your_ref buffer n z.taking) q h)
 
   -- ---- messages that came back
 
   pub fetch-back : {last : Desk} {outcome : Outcome} {buffer amount : ℕ} {a : Option TakeAction} → message.body ≡ RamFetch buffer amount
-      → a ≡ receiver.on_taking_bounce message.my_ref s.taking → As (perform_take d t a) last outcome → As (came_back d t p p.message.body) last outcome
-  unfolding came_back task_of
+      → a ≡ receiver.on_taking_bounce message.my_ref s.taking → As (perform_take d t a) last outcome → As (bounced_to d t p p.message.body) last outcome
+  unfolding bounced_to task_of
   fetch-back e q h = back-as for e (takes (λ y z. receiver.on_taking_bounce y.my_ref z.taking) q h)

@@ -13,7 +13,7 @@ use Rattle.rh_defs.specs.Post.{post_poll}
 use Rattle.rh_defs.specs.Desk.{Desk, Task, Made, Scrap, named, task_at, task_pages}
 use Rattle.rh_defs.specs.Commands.{own_block}
 use Rattle.rh_defs.specs.Questions.{block_items}
-use Rattle.rh_tasks.specs.declared.sights.TaskSight.{TaskSight}
+use Rattle.rh_tasks.specs.declared.sights.LiveTask.{LiveTask}
 use Rattle.rh_tasks.specs.declared.sights.MadeSight.{MadeSight}
 use Rattle.rh_tasks.specs.declared.scrap.ScrapFile.{ScrapFile}
 use Rattle.rh_tasks.specs.WorldLists.{segment_items_at}
@@ -23,7 +23,7 @@ use Rattle.rh_tasks.specs.View.{last_of}
 -- ---- a task
 
 -- what is seen is the task
-pub record IsSightOf (s : TaskSight) (t : Task) : Type 0 where
+pub record IsSightOf (s : LiveTask) (t : Task) : Type 0 where
   pub handle : s.handle ≡ t.handle
   pub name : s.name.now ≡ t.name
   pub buffer : s.buffer ≡ t.buffer
@@ -36,7 +36,7 @@ pub record IsSightOf (s : TaskSight) (t : Task) : Type 0 where
   pub last_sent : option_map last_of (option_copied s.last_sent) ≡ t.last_sent
 
 -- a task is seen where there is one
-abbrev pub IsSeen : Option TaskSight → Option Task → Type 0
+abbrev pub IsSeen : Option LiveTask → Option Task → Type 0
 IsSeen None None = Unit {0}
 IsSeen (Some s) (Some t) = IsSightOf s t
 IsSeen _ _ = ⊥

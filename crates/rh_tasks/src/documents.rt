@@ -6,7 +6,7 @@ ghost use Rattle.rh_defs.specs.declared.transfer_action.TakeAction.TheVariants a
 ghost use Rattle.rh_defs.specs.Chain.{no_answer};
 ghost use Rattle.rh_defs.specs.Desk.{Task, with_task};
 ghost use Rattle.rh_defs.specs.IncomingEvents.{appended, without_buffer, taking_ended, fetch_more as fetch_more_on};
-ghost use Rattle.rh_defs.specs.IncomingEvents.{took as took_on, append as append_on, told as told_of, ask as ask_on};
+ghost use Rattle.rh_defs.specs.IncomingEvents.{took as took_on, append as append_on, outcome_of_end, ask as ask_on};
 ghost use Rattle.rh_defs.specs.IncomingEvents.{take_with, perform_take as perform_take_on, ack_back as ack_back_on};
 ghost use Rattle.rh_defs.specs.Memory.{Memory, IsOpen, bytes};
 ghost use Rattle.rh_defs.specs.Bytes.{part};
@@ -228,7 +228,7 @@ impl<S: Store, F: NamedFiles> World<S, F> {
             TakeAction::LoadFile(a) => self.load_file(i, a),
             TakeAction::Release(a) => {
                 self.end_failed(i, &a.transfer, &action, 0);
-                told(a.ending)
+                outcome_of(a.ending)
             }
         }
     }
@@ -248,8 +248,8 @@ impl<S: Store, F: NamedFiles> World<S, F> {
 }
 
 /// What is told of a transfer that ends early.
-fn told(ending: Ending) -> Outcome
-    ensures { result ≡ told_of ending }
+fn outcome_of(ending: Ending) -> Outcome
+    ensures { result ≡ outcome_of_end ending }
 {
     match ending {
         Ending::Drained => Outcome::Drained,

@@ -247,7 +247,7 @@ impl<S: Store, F: NamedFiles> World<S, F> {
     }
 
     /// The numbers of a question's answer: NoName, NoBlock.
-    pub fn told(&self, question: &Question) -> Result<Numbers, Refusal>
+    pub fn answer_question(&self, question: &Question) -> Result<Numbers, Refusal>
         requires { can_be_asked question.now ≡ true }
         ensures { result ≡ first_told (asked self.now.desk question.now) }
     {

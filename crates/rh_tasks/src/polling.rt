@@ -9,7 +9,7 @@ ghost use Rattle.rh_defs.specs.Order.{IsReordered};
 ghost use Rattle.rh_defs.specs.Post.{post_poll};
 ghost use Rattle.rh_defs.specs.Range.{in_range};
 ghost use Rattle.rh_defs.specs.Commands.{poll as poll_on};
-ghost use Rattle.rh_defs.specs.Transfer.{came as came_on, came_back as came_back_on, handled};
+ghost use Rattle.rh_defs.specs.Transfer.{delivered, bounced_to, handled};
 ghost use Rattle.rh_wimp.specs.Chains.{event_of};
 ghost use Rattle.rh_tasks.specs.Inner.CommandAnswers.{GivesAlike};
 ghost use Rattle.rh_tasks.specs.Inner.PollSteps.{IsAt, IsFor, Handles};
@@ -65,16 +65,16 @@ impl<S: Store, F: NamedFiles> World<S, F> {
             → Handles (handled self.old.desk t m code) self.new result }
     {
         match code {
-            EventCode::User | EventCode::Recorded => self.came(i, message),
-            EventCode::Acknowledge => self.came_back(i, message),
+            EventCode::User | EventCode::Recorded => self.deliver(i, message),
+            EventCode::Acknowledge => self.bounce(i, message),
         }
     }
 
     /// What is done with a message that came.
-    fn came(&mut self, i: usize, message: &Message) -> Outcome
+    fn deliver(&mut self, i: usize, message: &Message) -> Outcome
         requires { i < length self.old.desk.tasks }
         ensures { (t : Task) (m : Parcel) → IsFor i t self.old.desk m message.now
-            → Handles (came_on self.old.desk t m m.message.body) self.new result }
+            → Handles (delivered self.old.desk t m m.message.body) self.new result }
     {
         let seat = &self.seats[i];
         let (from, my_ref, your_ref) = (message.from, message.my_ref, message.your_ref);
@@ -114,10 +114,10 @@ impl<S: Store, F: NamedFiles> World<S, F> {
     }
 
     /// What is done with a message that came back.
-    fn came_back(&mut self, i: usize, message: &Message) -> Outcome
+    fn bounce(&mut self, i: usize, message: &Message) -> Outcome
         requires { i < length self.old.desk.tasks }
         ensures { (t : Task) (m : Parcel) → IsFor i t self.old.desk m message.now
-            → Handles (came_back_on self.old.desk t m m.message.body) self.new result }
+            → Handles (bounced_to self.old.desk t m m.message.body) self.new result }
     {
         let my_ref = message.my_ref;
         match &message.body {

@@ -24,7 +24,7 @@ use rh_store::{Store, Words};
 
 /// A block that may be offered: its task's place, and its bytes.
 #[derive(Clone, Copy, Debug, PartialEq, Eq)]
-struct Source {
+struct SourceBlock {
     place: usize,
     size: u32,
 }
@@ -36,7 +36,7 @@ fn idle_source<S: Words>(
     seats: &Seats,
     name: &Name,
     anchor: Anchor,
-) -> Result<Source, Refusal>
+) -> Result<SourceBlock, Refusal>
     requires anchor { anchor < anchor_count }
     requires slots { AllByRecursion (HasSlot (S.memory store.now)) seats.now.items }
     ensures ok { IfOk result (CanOffer anchor (S.memory store.now) name.now seats.now.items) }
@@ -53,7 +53,7 @@ fn idle_source<S: Words>(
     if seat.sending.is_full() {
         return Err(Refusal::Busy);
     }
-    Ok(Source { place: i, size })
+    Ok(SourceBlock { place: i, size })
 }
 
 /// The handle of the task with the name; NoTask where there is none.

@@ -33,7 +33,7 @@ use rh_store::Store;
 
 /// A live task, lent where the world keeps it.
 #[derive(Clone, Copy)]
-pub struct TaskSight<'a> {
+pub struct LiveTask<'a> {
     pub handle: Handle,
     pub name: &'a Name,
     /// The bytes of its receive buffer.
@@ -73,7 +73,7 @@ pub fn fits(size: usize, offset: usize, n: usize) -> bool
 
 impl<S: Store, F: NamedFiles> World<S, F> {
     /// Live task i in order of handle, with its records; None past the last.
-    pub fn task(&self, i: usize) -> Option<TaskSight<'_>>
+    pub fn task(&self, i: usize) -> Option<LiveTask<'_>>
         ensures task { IsSeen result (slice_get self.now.desk.tasks i) }
         ensures live { IfSome result (λ s. task_at s.handle self.now.desk ≡ slice_get self.now.desk.tasks i) }
         ensures few { length self.now.desk.tasks ≤ most_tasks }
@@ -86,7 +86,7 @@ impl<S: Store, F: NamedFiles> World<S, F> {
         let seat = &self.seats[i];
         let (length, largest, free) = seat.slot.describe(&self.store);
         let heap = (length as u32, largest as u32, free as u32);
-        Some(TaskSight {
+        Some(LiveTask {
             handle: seat.handle,
             name: &seat.name,
             buffer: seat.buffer,

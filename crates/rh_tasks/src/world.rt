@@ -16,7 +16,7 @@ ghost use Rattle.rh_defs.specs.declared.sizes.TheConstants.{MAX_PAGES, MIN_PAGES
 use crate::made::MadeAreas;
 use crate::module_area::MODULE;
 use crate::named_files::NamedFiles;
-use crate::next::Next;
+use crate::next_numbers::NextNumbers;
 use crate::scrap::ScrapFile;
 use crate::seat::Seats;
 use rh_defs::sizes::FIXED_AREAS;
@@ -35,7 +35,7 @@ pub struct World<S: Store, F: NamedFiles = Files> {
     pub(crate) seats: Seats,
     pub(crate) made: MadeAreas,
     pub(crate) files: F,
-    pub(crate) next: Next,
+    pub(crate) next: NextNumbers,
     /// The messages, whose blocks are the module area's.
     pub(crate) queue: Queue,
     pub(crate) scrap: Option<ScrapFile>,
@@ -95,7 +95,7 @@ impl<S: Store, F: NamedFiles> World<S, F> {
             seats: Table::new(),
             made: Table::new(),
             files,
-            next: Next::first(handle.0),
+            next: NextNumbers::first(handle.0),
             queue: Queue::with_next_ref(r),
             scrap: None,
         }
@@ -136,7 +136,7 @@ impl<S: Store, F: NamedFiles> World<S, F> {
         ensures { Does command.now self.old self.new result }
     {
         match command {
-            Command::Ask(question) => answer(answered(self.told(question))),
+            Command::Ask(question) => answer(answered(self.answer_question(question))),
             Command::Task {
                 name,
                 buffer,

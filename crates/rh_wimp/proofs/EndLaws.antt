@@ -6,7 +6,7 @@ use Rattle.rh_wimp.proofs.Common.{cond_false, eqb_same, eqb_apart, IsModule, mod
 use Rattle.rh_wimp.proofs.Common.{entry_at}
 use Rattle.rh_wimp.proofs.Common.{ended_from, lifted, queue_to, settled_from, without_seat}
 use Rattle.rh_defs.specs.Post.{bounce_all}
-use Rattle.rh_wimp.specs.Inner.LooseMessages.{LiftsFirst}
+use Rattle.rh_wimp.specs.Inner.LooseMessages.{TakesFirst}
 use Rattle.rh_wimp.specs.Inner.Deaths.{Drained, Drains, bounced_from}
 use Rattle.rh_wimp.proofs.BounceLaws.{vanished}
 use Rattle.rh_wimp.proofs.DeathLaws.{death-settled, death-step, queue-ended, seats-ended, seats-from}
@@ -57,7 +57,7 @@ drained-step m n k module_area q q1 q2 post now h turn block t d w s =
     )
 
 pub drained-end : (m n : Memory) (module_area : Module) (q q1 : Chains) (post now : Post) (h turn : ℕ) → Drained m module_area q post h turn now
-    → LiftsFirst n module_area q1 now h None → Drains n module_area q1 post h most_messages
+    → TakesFirst n module_area q1 now h None → Drains n module_area q1 post h most_messages
 drained-end m n module_area q q1 post now h turn d w =
     let l = ap length (first-none h now.queued w.0) in
     (now, record { spells = w.1; same = d.same; few = omega arith; seats = d.seats })

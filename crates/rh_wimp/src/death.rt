@@ -67,7 +67,7 @@ impl Queue {
         ensures only { OnlyArea (S.memory store.old) (S.memory store.new) module_area.area.0 }
     {
         for _turn in 0..MOST_MESSAGES {
-            let Some(block) = self.lift_first(store, module_area, at) else {
+            let Some(block) = self.take_first(store, module_area, at) else {
                 return;
             };
             self.end_message(store, module_area, block, dying);

@@ -9,7 +9,7 @@ ghost use Rattle.rh_defs.specs.Post.{Post, bounce_held, bounced, held_by, post_p
 ghost use Rattle.rh_module.specs.ModuleArea.{IsModule, module_heap_in};
 ghost use Rattle.rh_wimp.specs.QueueCalls.{Answers, IsQueue, LeavesChains, handles_of};
 ghost use Rattle.rh_wimp.specs.Chains.{HasEntry, ArePostChains, SpellsPostIn, entry_at, event_of};
-ghost use Rattle.rh_wimp.specs.Inner.LooseMessages.{LiftsFirst, MayBounce};
+ghost use Rattle.rh_wimp.specs.Inner.LooseMessages.{TakesFirst, MayBounce};
 ghost use Rattle.rh_wimp.specs.Inner.ChainEdits.{emptied_chains, holding_chains};
 
 use crate::chain::{Entry, append, find, shortened};
@@ -101,7 +101,7 @@ impl Queue {
     }
 
     /// Takes the first message off a task's chain, and answers its block.
-    pub(crate) fn lift_first<S: Pages>(
+    pub(crate) fn take_first<S: Pages>(
         &mut self,
         store: &mut S,
         module_area: Module,
@@ -111,7 +111,7 @@ impl Queue {
         requires within { at < length self.old.entries }
         requires post { (post : Post) × SpellsPostIn (S.memory store.old) module_area self.old post }
         ensures lifts { (post : Post) → SpellsPostIn (S.memory store.old) module_area self.old post
-            → LiftsFirst (S.memory store.new) module_area self.new post (entry_at self.old.entries at).handle result }
+            → TakesFirst (S.memory store.new) module_area self.new post (entry_at self.old.entries at).handle result }
         ensures module { IsModule (S.memory store.new) module_area }
         ensures only { OnlyArea (S.memory store.old) (S.memory store.new) module_area.area.0 }
     {
@@ -153,7 +153,7 @@ impl Queue {
         ensures module { IsModule (S.memory store.new) module_area }
         ensures only { OnlyArea (S.memory store.old) (S.memory store.new) module_area.area.0 }
     {
-        let Some(block) = self.lift_first(store, module_area, at) else {
+        let Some(block) = self.take_first(store, module_area, at) else {
             return None;
         };
         let code = read_code(store, module_area, block);

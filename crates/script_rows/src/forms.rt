@@ -11,7 +11,7 @@ use rh_defs::sizes::PAGE;
 use rh_defs::{Files, Name};
 use rh_feed::LONGEST_SCRIPT;
 use rh_lines::{Flagged, Sink, WholeText, WriteFailed};
-use rh_pages::{LISTS, LentGround, PagedStore};
+use rh_pages::{LISTS, LentBacking, PagedStore};
 use rh_run::{
     RunFault, Status, draw_map, draw_sheet, map_of, map_over, replies_of, run, run_over, sheet_of,
     sheet_over,
@@ -108,14 +108,14 @@ pub(crate) fn over_plain(alloc: Global, script: &[u8], pages: u32) -> Result<Wri
 
 /// A store of 64 pages on memory that is lent, whatever it holds.
 #[tactic(auto, unfolding(rh_defs::specs::Memory::fresh))]
-fn lent_store<'a>(bytes: &'a mut [u8], numbers: &'a mut [u16]) -> PagedStore<LentGround<'a>>
+fn lent_store<'a>(bytes: &'a mut [u8], numbers: &'a mut [u16]) -> PagedStore<LentBacking<'a>>
     requires bytes { length bytes.now ≡ PAGE * 64 }
     requires numbers { length numbers.now ≡ LISTS * 64 }
     ensures fresh { paged_memory result ≡ fresh (paged_memory result).pages }
     ensures least { MIN_PAGES ≤ (paged_memory result).pages }
     ensures most { (paged_memory result).pages ≤ MAX_PAGES }
 {
-    PagedStore::over(LentGround::new(bytes, numbers), 64)
+    PagedStore::over(LentBacking::new(bytes, numbers), 64)
 }
 
 /// What is written over 64 pages of lent memory.

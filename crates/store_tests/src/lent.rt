@@ -5,8 +5,8 @@ ghost use Rattle.rh_defs.specs.Memory.{IsOpen};
 use crate::answer::tell;
 use crate::row::Row;
 use crate::words;
-use rh_flex::{LentPages, LentPagesMut};
-use rh_lent::{LENT, Lent, LentMut};
+use rh_lent_heap::{LENT, Lent, LentMut};
+use rh_lent_slot::{LentPages, LentPagesMut};
 use rh_store::{AreaId, Paged, Pages, Words};
 use std::io;
 
@@ -26,7 +26,7 @@ fn asked<R: Print + AllocGlobal, S: Words>(
 }
 
 /// Runs the rows over seven bytes that are lent to be read, 1 to 7.
-#[tactic(auto, unfolding(rh_lent::specs::Lent::memory_shown, rh_lent::specs::Lent::memory_over, rh_defs::specs::Memory::area_set, rh_defs::specs::Memory::bytes))]
+#[tactic(auto, unfolding(rh_lent_heap::specs::Lent::memory_shown, rh_lent_heap::specs::Lent::memory_over, rh_defs::specs::Memory::area_set, rh_defs::specs::Memory::bytes))]
 pub(crate) fn over_bytes<R: Print + AllocGlobal>(rt: &R, rows: &str) -> io::Result<()> {
     let bytes = [1, 2, 3, 4, 5, 6, 7];
     let store = Lent { bytes: &bytes };
@@ -34,7 +34,7 @@ pub(crate) fn over_bytes<R: Print + AllocGlobal>(rt: &R, rows: &str) -> io::Resu
 }
 
 /// Runs the rows over the same bytes, lent to be written.
-#[tactic(auto, unfolding(rh_lent::specs::Lent::lent_memory, rh_lent::specs::Lent::memory_over, rh_defs::specs::Memory::area_set, rh_defs::specs::Memory::bytes))]
+#[tactic(auto, unfolding(rh_lent_heap::specs::Lent::lent_memory, rh_lent_heap::specs::Lent::memory_over, rh_defs::specs::Memory::area_set, rh_defs::specs::Memory::bytes))]
 pub(crate) fn over_bytes_mut<R: Print + AllocGlobal>(rt: &R, rows: &str) -> io::Result<()> {
     let mut bytes = [1, 2, 3, 4, 5, 6, 7];
     let store = LentMut { bytes: &mut bytes };
@@ -58,7 +58,7 @@ fn called<R: Print + AllocGlobal, S: Pages>(
 }
 
 /// Runs the rows over 9,000 bytes of 9, of which the first page is the area's, and one more is free.
-#[tactic(auto, unfolding(rh_flex::specs::LentPages::lent_pages_memory, rh_flex::specs::LentPages::pages_memory_over, rh_defs::specs::Memory::area_set, rh_defs::specs::Memory::bytes))]
+#[tactic(auto, unfolding(rh_lent_slot::specs::LentPages::lent_pages_memory, rh_lent_slot::specs::LentPages::pages_memory_over, rh_defs::specs::Memory::area_set, rh_defs::specs::Memory::bytes))]
 pub(crate) fn over_pages_mut<R: Print + AllocGlobal>(rt: &R, rows: &str) -> io::Result<()> {
     let mut bytes = vec![in rt.alloc(); 9; 9000]?;
     let mut store = LentPagesMut {
@@ -90,7 +90,7 @@ fn asked_of_pages<R: Print + AllocGlobal, S: Paged>(
 }
 
 /// Runs the rows over 4,096 bytes of 9 and 4,904 of 1, of which two pages are lent to be read.
-#[tactic(auto, unfolding(rh_flex::specs::LentPages::pages_memory_shown, rh_flex::specs::LentPages::pages_memory_over, rh_defs::specs::Memory::area_set, rh_defs::specs::Memory::bytes))]
+#[tactic(auto, unfolding(rh_lent_slot::specs::LentPages::pages_memory_shown, rh_lent_slot::specs::LentPages::pages_memory_over, rh_defs::specs::Memory::area_set, rh_defs::specs::Memory::bytes))]
 pub(crate) fn over_pages<R: Print + AllocGlobal>(rt: &R, rows: &str) -> io::Result<()> {
     let mut bytes = vec![in rt.alloc(); 9; 4096]?;
     bytes.resize(9000, 1)?;

@@ -40,11 +40,11 @@ pub use Rattle.rh_defs.specs.Forms.{is_name}
 unfoldable pub use Rattle.rh_defs.specs.Range.{in_range}
 pub use Rattle.rh_defs.specs.declared.command.Command.{Command}
 pub use Rattle.rh_defs.specs.declared.question.Question.{Question}
-pub use Rattle.vf_desk.specs.Called.{IsAsked, called, desk_by, in_form, number_or, status_of}
+pub use Rattle.vf_desk.specs.CallOutcome.{IsAsked, called, desk_by, in_form, number_or, status_of}
 pub use Rattle.vf_desk.specs.DeskItems.{as_area, list_asked}
 pub use Rattle.vf_desk.specs.DeskLines.{TakesLine}
 pub use Rattle.vf_desk.specs.Inner.DeskLists.{filled_from}
 pub use Rattle.vf_desk.specs.SeenDesk.{KeepsRest, SeenBy, console_in}
 pub use Rattle.vf_desk.specs.DeskStatus.{closed_status}
-pub use Rattle.vf_desk.specs.declared.called.Called.{Called}
-pub use Rattle.vf_desk.specs.declared.station.Station.{Station}
+pub use Rattle.vf_desk.specs.declared.call_outcome.CallOutcome.{CallOutcome}
+pub use Rattle.vf_desk.specs.declared.open_desk.OpenDesk.{OpenDesk}

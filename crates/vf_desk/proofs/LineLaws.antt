@@ -1,6 +1,6 @@
 -- Lines on a desk that is open, and on one that isn't.
 use Rattle.vf_desk.proofs.Common.{◌≡◌, ℕ, Bool, true, false, List, length, Option, Some, None, refl, sym, ap, subst, ◌∙◌, nat_le, if◌then◌else◌, Console}
-use Rattle.vf_desk.proofs.Common.{Desk, Station, TakesLine, SeenBy, console_in, closed_status}
+use Rattle.vf_desk.proofs.Common.{Desk, OpenDesk, TakesLine, SeenBy, console_in, closed_status}
 use Rattle.rh_console.specs.Console.{Prints}
 use Rattle.rh_console.specs.Said.{said_text}
 use Rattle.rh_defs.specs.Order.{IsReordered}
@@ -10,7 +10,7 @@ use Rattle.vf_desk.specs.SeenDesk.{files_in}
 use Rattle.vf_desk.specs.DeskStatus.{short}
 
 -- a line on a desk that isn't open
-takes_none : (line : List ℕ) (console : Option Console) → console ≡ None → (held : Option Station) → console_in held ≡ console
+takes_none : (line : List ℕ) (console : Option Console) → console ≡ None → (held : Option OpenDesk) → console_in held ≡ console
     → TakesLine line held held closed_status
 takes_none line console none held is = record {
   status_is = λ s seen. status s (unseen s seen);
@@ -31,11 +31,11 @@ takes_none line console none held is = record {
     after None seen _ = seen
     after (Some d) seen shut = absurd shut
 
-pub takes-closed : {line : List ℕ} {held : Option Station} → console_in held ≡ None → TakesLine line held held closed_status
+pub takes-closed : {line : List ℕ} {held : Option OpenDesk} → console_in held ≡ None → TakesLine line held held closed_status
 takes-closed {line} {held} none = takes_none line None refl held none
 
 -- a line that the console has taken
-pub takes-open : {line : List ℕ} (old new : Option Station) (console now : Console) → console_in old ≡ Some console → console_in new ≡ Some now
+pub takes-open : {line : List ℕ} (old new : Option OpenDesk) (console now : Console) → console_in old ≡ Some console → console_in new ≡ Some now
     → files_in new ≡ files_in old
     → ((d : Desk) → IsReordered d console.world.desk → IsReordered (line_desk d line) now.world.desk)
     → ((d : Desk) → IsReordered d console.world.desk → said_text (line_desk d line) now.said ≡ line_text d line)
@@ -94,7 +94,7 @@ fills-none {text} {lent} {bytes} {was} prints = go (nat_le (length text) (length
 
 -- ---- the reply that is kept
 
-pub replies-open : {held : Option Station} {console : Console} {before after : List ℕ} {was now status : ℕ} → console_in held ≡ Some console
+pub replies-open : {held : Option OpenDesk} {console : Console} {before after : List ℕ} {was now status : ℕ} → console_in held ≡ Some console
     → ((d : Desk) → IsReordered d console.world.desk → Fills (said_text d console.said) before after was now status)
     → Replies held before after was now status
 replies-open {held} {console} {before} {after} {was} {now} {status} is fills = record {
@@ -102,7 +102,7 @@ replies-open {held} {console} {before} {after} {was} {now} {status} is fills = r
   stays = λ seen. absurd (subst (λ h. SeenBy h None) is seen);
 }
 
-pub replies-closed : {held : Option Station} {before : List ℕ} {was : ℕ} → console_in held ≡ None → Replies held before before was was closed_status
+pub replies-closed : {held : Option OpenDesk} {before : List ℕ} {was : ℕ} → console_in held ≡ None → Replies held before before was was closed_status
 replies-closed is = record {
   fills = λ d seen. absurd (subst (λ h. SeenBy h (Some d)) is seen);
   stays = λ _. record { status_is = refl; bytes = refl; length_is = refl };

@@ -1,23 +1,23 @@
 -- How a desk begins: calls that are refused, want of memory, and calls that are done.
 use Rattle.vf_desk.proofs.Common.{◌≡◌, ℕ, List, [], ◌∷◌, ◌++◌, length, Option, Some, None, inl, inr, refl, sym, ap, subst, ◌∙◌, ◌≢◌, ◌⊎◌, ◌==◌, ◌||◌, nat_lt}
-use Rattle.vf_desk.proofs.Common.{not, is_some, if◌then◌else◌, Console, Station, console_in, is_name}
+use Rattle.vf_desk.proofs.Common.{not, is_some, if◌then◌else◌, Console, OpenDesk, console_in, is_name}
 use Rattle.vf_desk.specs.Opening.{Adds, IsFresh, Opens, Tries, file_status, opening_status}
 use Rattle.vf_desk.specs.SeenDesk.{files_in}
 use Rattle.vf_desk.specs.DeskStatus.{already_open, bad_argument, bad_length, file_exists, no_memory}
 use Rattle.rh_defs.specs.declared.sizes.TheConstants.{LONGEST_FILE, MAX_PAGES, MIN_PAGES}
 use Rattle.rh_defs.specs.Files.{FileList, has_file}
 
--- ---- a station that is new
+-- ---- a open desk that is new
 
--- a handle that has nothing, and a station that has nothing
-pub record IsNew (held : Option Station) (fresh : Station) : Type 0 where
+-- a handle that has nothing, and a open desk that has nothing
+pub record IsNew (held : Option OpenDesk) (fresh : OpenDesk) : Type 0 where
   pub files : fresh.files ≡ []
   pub console : fresh.console ≡ None
   pub empty : held ≡ None
 
--- what was put into the handle: the station, or nothing for want of memory
-abbrev pub Puts : Option Station → Station → ℕ → Type 0
-Puts now station result = ((result ≡ 0) × (now ≡ Some station)) ⊎ ((result ≡ no_memory) × (now ≡ None))
+-- what was put into the handle: the open desk, or nothing for want of memory
+abbrev pub Puts : Option OpenDesk → OpenDesk → ℕ → Type 0
+Puts now open_desk result = ((result ≡ 0) × (now ≡ Some open_desk)) ⊎ ((result ≡ no_memory) × (now ≡ None))
 
 -- what could be tried could
 tried-zero : {tried status : ℕ} → Tries tried status → status ≡ 0 → tried ≡ 0
@@ -27,15 +27,15 @@ tried-zero (inr both) zero = both.0
 no_memory-some : no_memory ≢ 0
 no_memory-some e = cc
 
--- what a call on the new station came to, of one on the handle
-module _ {held : Option Station} {fresh : Station} (is : IsNew held fresh) where
+-- what a call on the new open desk came to, of one on the handle
+module _ {held : Option OpenDesk} {fresh : OpenDesk} (is : IsNew held fresh) where
   same-console : console_in (Some fresh) ≡ console_in held
   same-console = is.console ∙ sym (ap console_in is.empty)
 
   same-files : files_in (Some fresh) ≡ files_in held
   same-files = is.files ∙ sym (ap files_in is.empty)
 
-  module _ {name bytes : List ℕ} {new : Station} {status : ℕ} (adds : Adds name bytes (Some fresh) (Some new) status) where
+  module _ {name bytes : List ℕ} {new : OpenDesk} {status : ℕ} (adds : Adds name bytes (Some fresh) (Some new) status) where
     file-tried : Tries (file_status held name bytes) status
     file-tried =
         let of : Option Console → FileList → ℕ = λ c files.
@@ -49,7 +49,7 @@ module _ {held : Option Station} {fresh : Station} (is : IsNew held fresh) where
     adds-first-refused bad =
         record { tried = file-tried; files = λ zero. absurd (bad zero); closed = λ zero. absurd (bad zero); refused = λ _. refl }
 
-    pub adds-first-done : {now : Option Station} {result : ℕ} → status ≡ 0 → Puts now new result → Adds name bytes held now result
+    pub adds-first-done : {now : Option OpenDesk} {result : ℕ} → status ≡ 0 → Puts now new result → Adds name bytes held now result
     adds-first-done {now} {result} zero (inl (done, put)) = record {
       tried = inl (done ∙ sym (tried-zero file-tried zero));
       files = λ _. ap files_in put ∙ adds.files zero ∙ ap (λ l. l ++ (name, bytes) ∷ []) same-files;
@@ -63,7 +63,7 @@ module _ {held : Option Station} {fresh : Station} (is : IsNew held fresh) where
       refused = λ _. left ∙ sym is.empty;
     }
 
-  module _ {pages handle ref : ℕ} {new : Station} {status : ℕ} (opens : Opens pages handle ref (Some fresh) (Some new) status) where
+  module _ {pages handle ref : ℕ} {new : OpenDesk} {status : ℕ} (opens : Opens pages handle ref (Some fresh) (Some new) status) where
     open-tried : Tries (opening_status held pages handle ref) status
     open-tried =
         let of : Option Console → ℕ = λ c.
@@ -75,7 +75,7 @@ module _ {held : Option Station} {fresh : Station} (is : IsNew held fresh) where
     opens-first-refused bad =
         record { tried = open-tried; console = λ zero. absurd (bad zero); files = λ zero. absurd (bad zero); refused = λ _. refl }
 
-    pub opens-first-done : {now : Option Station} {result : ℕ} → status ≡ 0 → Puts now new result → Opens pages handle ref held now result
+    pub opens-first-done : {now : Option OpenDesk} {result : ℕ} → status ≡ 0 → Puts now new result → Opens pages handle ref held now result
     opens-first-done {now} {result} zero (inl (done, put)) =
         let opened = opens.console zero in
         record {

@@ -1,4 +1,4 @@
--- A pointer beside a heap's handle in memory. So lie an `Unboxed` and a `StationHandle`, and what either owns is what
+-- A pointer beside a heap's handle in memory. So lie an `Unboxed` and a `OpenDeskHandle`, and what either owns is what
 -- a box has at the same types, or nothing.
 use Rattle.vf_desk.proofs.Common.{true, ◌≡◌, refl, subst, List, [], ◌∷◌, ◌++◌, ℕ, bare, dnil, Val, vptr, never, fst∗, sem, ‵, ◌$◌, move, fsplit, fjoin}
 use Rattle.vf_desk.proofs.Common.{layout, RattleType, Ptr, block_ptr, null_ptr, ptr_val, in_a_block, nothing, handle_tells, box_owns, Option, ghosts}
@@ -21,9 +21,9 @@ use Rattle.core.proofs.cell.Inside.{Good}
 use Rattle.std.specs.contracts.alloc.Global as heap
 use Rattle.std.proofs.alloc.Global.TheLaws as heap_laws
 use Rattle.std_alloc.proofs.ResultValues.{and_tt}
-use Rattle.vf_desk.specs.contracts.handle.StationHandle as StationHandle
+use Rattle.vf_desk.specs.contracts.handle.OpenDeskHandle as OpenDeskHandle
 use Rattle.vf_desk.specs.contracts.handle.unboxed.Unboxed as Unboxed
-use Rattle.vf_desk.specs.contracts.station.Station as Station
+use Rattle.vf_desk.specs.contracts.open_desk.OpenDesk as OpenDesk
 
 -- the machine value of a pointer beside a handle
 abbrev pub pair : Val → Val → Val
@@ -68,17 +68,17 @@ module _ (R Z : RattleType) (L : Laws Z) (g : Ghosts Z.Denot) where
 -- ---- the handle, whose heap is `Global`
 
 abbrev pub heap_al : Al
-heap_al = al Station.the_row heap.the_row heap_laws.the_row_laws ghosts
+heap_al = al OpenDesk.the_row heap.the_row heap_laws.the_row_laws ghosts
 
-abbrev pub owned : heap.the_row.Denot → Ptr → Option Station.the_row.Denot → base.Fml.Fml
+abbrev pub owned : heap.the_row.Denot → Ptr → Option OpenDesk.the_row.Denot → base.Fml.Fml
 owned = Rattle.vf_desk.specs.HandleOwnership.handle_owns
 
 module _ {M : Type 1} {𝓤 : Ura M} {𝓛 : Logic 𝓤} {K : Type 0} {Γ : List (Item 𝓤)} {G : Goal 𝓤 𝓛.H} where
-  -- what a handle owns: what its station says, and the heap's handle
-  pub handle_out : K → (d : StationHandle.the_row.Denot) (vs : List Val)
+  -- what a handle owns: what its open desk says, and the heap's handle
+  pub handle_out : K → (d : OpenDeskHandle.the_row.Denot) (vs : List Val)
       → ((h : Val) → vs ≡ pair (ptr_val d.at) h ∷ [] → Good (layout heap.the_row) h
-      → Seq K 𝓛 (‵ (owned d.alloc d.at d.station) ∷ ‵ (heap.the_row.own_val d.alloc (h ∷ [])) ∷ Γ) G)
-      → Seq K 𝓛 (‵ (StationHandle.the_row.own_val d vs) ∷ Γ) G
+      → Seq K 𝓛 (‵ (owned d.alloc d.at d.open_desk) ∷ ‵ (heap.the_row.own_val d.alloc (h ∷ [])) ∷ Γ) G)
+      → Seq K 𝓛 (‵ (OpenDeskHandle.the_row.own_val d vs) ∷ Γ) G
   handle_out t d vs next =
       fsplit t $ fpick t (λ words. fsplit t $ feq_l t (λ whole. fsplit t $ feq_l t (λ first. fsplit t $
       handle_tells heap_al t d.alloc words.1.0 (λ h second fits. move t (1 ∷ []) $ drop t $ move t (1 ∷ []) $
@@ -87,14 +87,14 @@ module _ {M : Type 1} {𝓤 : Ura M} {𝓛 : Logic 𝓤} {K : Type 0} {Γ : List
       (subst (λ (ws : List Val). vs ≡ vstruct (of_list (ws ++ (words.1.0 ++ []))) ∷ []) first whole)) fits))))
 
   -- these make a handle
-  pub handle_in : K → (p : Ptr) (h : Val) (a : heap.the_row.Denot) (x : Option Station.the_row.Denot)
-      → Step K 𝓛 (‵ (StationHandle.the_row.own_val (record { at = p; alloc = a; station = x }) (pair (ptr_val p) h ∷ [])) ∷ Γ) G
+  pub handle_in : K → (p : Ptr) (h : Val) (a : heap.the_row.Denot) (x : Option OpenDesk.the_row.Denot)
+      → Step K 𝓛 (‵ (OpenDeskHandle.the_row.own_val (record { at = p; alloc = a; open_desk = x }) (pair (ptr_val p) h ∷ [])) ∷ Γ) G
       (‵ (owned a p x) ∷ ‵ (heap.the_row.own_val a (h ∷ [])) ∷ Γ) G
   handle_in t p h a x = step (λ s.
       let v : Val = pair (ptr_val p) h in
-      let made : StationHandle.the_row.Denot = record { at = p; alloc = a; station = x } in
+      let made : OpenDeskHandle.the_row.Denot = record { at = p; alloc = a; open_desk = x } in
       nothing t $ move t (2 ∷ 0 ∷ []) $ fjoin t $ feq_i t (List Val) (ptr_val p ∷ []) (ptr_val p ∷ []) refl $ fjoin t $
       feq_i t (List Val) (v ∷ []) (v ∷ []) refl $ fjoin t $
-      fpack t (Valss ((shape StationHandle.the_type).fields)) (within (shape StationHandle.the_type) (to StationHandle.the_type made) (v ∷ []))
+      fpack t (Valss ((shape OpenDeskHandle.the_type).fields)) (within (shape OpenDeskHandle.the_type) (to OpenDeskHandle.the_type made) (v ∷ []))
       (ptr_val p ∷ [], (h ∷ [], tt)) $
       fjoin t $ s)

@@ -1,5 +1,5 @@
 -- What follows for each desk that a handle may be seen as.
-use Rattle.vf_desk.proofs.Common.{◌≡◌, refl, sym, ap, subst, ◌∙◌, ◌≢◌, true, false, Option, Some, None, Command, Desk, Console, in_range, Called, Station}
+use Rattle.vf_desk.proofs.Common.{◌≡◌, refl, sym, ap, subst, ◌∙◌, ◌≢◌, true, false, Option, Some, None, Command, Desk, Console, in_range, CallOutcome, OpenDesk}
 use Rattle.vf_desk.proofs.Common.{IsAsked, called, desk_by, in_form, status_of, KeepsRest, SeenBy, console_in}
 use Rattle.rh_defs.specs.declared.command.Command.TheVariants as command
 use Rattle.rh_defs.specs.declared.reply.Reply.{Reply}
@@ -7,7 +7,7 @@ use Rattle.rh_defs.specs.declared.reply.Reply.TheVariants as reply
 use Rattle.rh_tasks.specs.Answer.{StaysIfAsked, StaysIfRefused, StepsTo}
 use Rattle.rh_tasks.specs.Inner.CommandAnswers.{Does}
 use Rattle.rh_tasks.specs.Shown.{Shown}
-use Rattle.vf_desk.specs.declared.called.Called.TheVariants.{Closed, BadArgument, Said}
+use Rattle.vf_desk.specs.declared.call_outcome.CallOutcome.TheVariants.{Closed, BadArgument, Said}
 use Rattle.vf_desk.specs.Inner.DeskSteps.{Steps}
 use Rattle.vf_desk.proofs.FormLaws.{in-its-form, out-of-form}
 use Rattle.vf_desk.specs.SeenDesk.{said_in}
@@ -35,13 +35,13 @@ asked-stays old new _ stays asked = absurd asked
 
 -- ---- what a handle has
 
--- what is said of the station in a handle is said of the handle
-pub in-handle : {held : Option Station} {station : Station} {P : Option Desk → Type 0} → Some station ≡ held
-    → ((s : Option Desk) → SeenBy station.console s → P s) → (s : Option Desk) → SeenBy (console_in held) s → P s
+-- what is said of the open desk in a handle is said of the handle
+pub in-handle : {held : Option OpenDesk} {open_desk : OpenDesk} {P : Option Desk → Type 0} → Some open_desk ≡ held
+    → ((s : Option Desk) → SeenBy open_desk.console s → P s) → (s : Option Desk) → SeenBy (console_in held) s → P s
 in-handle is holds s seen = holds s (subst (λ h. SeenBy (console_in h) s) (sym is) seen)
 
 -- an empty handle is seen as a closed desk
-pub empty-seen : {held : Option Station} → held ≡ None → (s : Option Desk) → SeenBy (console_in held) s → SeenBy None s
+pub empty-seen : {held : Option OpenDesk} → held ≡ None → (s : Option Desk) → SeenBy (console_in held) s → SeenBy None s
 empty-seen is s seen = subst (λ h. SeenBy (console_in h) s) is seen
 
 -- ---- what is done on a world
@@ -65,48 +65,48 @@ pub steps-good : (c : Command) {old new : Shown} {r : Reply} → in_range c ≡ 
 steps-good c {old} {new} {r} good does =
     subst (λ f. Steps f old new (Said r)) (in-its-form c good) (steps-done c does.steps does.refused does.asked)
 
--- ---- a station that has been left as it was
+-- ---- a open desk that has been left as it was
 
-pub stays-rest : (held : Option Station) → KeepsRest held held
+pub stays-rest : (held : Option OpenDesk) → KeepsRest held held
 stays-rest held = record { files = refl; said = refl }
 
--- ---- a station on whose desk a command was done
+-- ---- a open desk on whose desk a command was done
 
-module _ (station : Station) {old : Console} (is : station.console ≡ Some old) {command : Option Command} {world : Shown} {said : Called}
+module _ (open_desk : OpenDesk) {old : Console} (is : open_desk.console ≡ Some old) {command : Option Command} {world : Shown} {said : CallOutcome}
     (steps : Steps command old.world world said) where
   abbrev pub console_now : Console
   console_now = record { world = world; said = old.said }
 
-  abbrev pub station_now : Station
-  station_now = record { files = station.files; console = Some console_now }
+  abbrev pub station_now : OpenDesk
+  station_now = record { files = open_desk.files; console = Some console_now }
 
-  pub done-said : (s : Option Desk) → SeenBy station.console s → said ≡ called s command
+  pub done-said : (s : Option Desk) → SeenBy open_desk.console s → said ≡ called s command
   done-said s seen = go s (subst (λ h. SeenBy h s) is seen)
     where
       go : (s : Option Desk) → SeenBy (Some old) s → said ≡ called s command
       go None seen = absurd seen
       go (Some d) seen = steps.said_is d seen
 
-  pub done-desk : (s : Option Desk) → SeenBy station.console s → SeenBy (Some console_now) (desk_by s command)
+  pub done-desk : (s : Option Desk) → SeenBy open_desk.console s → SeenBy (Some console_now) (desk_by s command)
   done-desk s seen = go s (subst (λ h. SeenBy h s) is seen)
     where
       go : (s : Option Desk) → SeenBy (Some old) s → SeenBy (Some console_now) (desk_by s command)
       go None seen = absurd seen
       go (Some d) seen = steps.desk d seen
 
-  pub done-rest : KeepsRest (Some station) (Some station_now)
+  pub done-rest : KeepsRest (Some open_desk) (Some station_now)
   done-rest = record { files = refl; said = ap said_in (sym is) }
 
-  done-same : world ≡ old.world → station_now ≡ station
+  done-same : world ≡ old.world → station_now ≡ open_desk
   done-same same =
-      let with_world : Shown → Station = λ w. record { files = station.files; console = Some (record { world = w; said = old.said }) } in
-      let with_console : Option Console → Station = λ h. record { files = station.files; console = h } in
+      let with_world : Shown → OpenDesk = λ w. record { files = open_desk.files; console = Some (record { world = w; said = old.said }) } in
+      let with_console : Option Console → OpenDesk = λ h. record { files = open_desk.files; console = h } in
       ap with_world same ∙ ap with_console (sym is)
 
-  pub done-refused : status_of said ≢ 0 → station_now ≡ station
+  pub done-refused : status_of said ≢ 0 → station_now ≡ open_desk
   done-refused bad = done-same (steps.refused bad)
 
-  pub done-asked : IsAsked command → station_now ≡ station
+  pub done-asked : IsAsked command → station_now ≡ open_desk
   done-asked asked = done-same (steps.asked asked)
 
 -- one whose desk isn't open
@@ -118,11 +118,11 @@ module _ {held : Option Console} (is : held ≡ None) where
   shut-desk command s seen =
       subst (λ h. SeenBy h (desk_by s command)) (sym is) (closed-desk s command (subst (λ h. SeenBy h s) is seen))
 
--- ---- a handle whose station was taken out, changed, and put back
+-- ---- a handle whose open desk was taken out, changed, and put back
 
-module _ {held now : Option Station} {old new : Station} (is : Some old ≡ held) (put : now ≡ Some new) where
+module _ {held now : Option OpenDesk} {old new : OpenDesk} (is : Some old ≡ held) (put : now ≡ Some new) where
   -- what is said of the stations is said of the handles
-  pub held-by : (R : Option Station → Option Station → Type 0) → R (Some old) (Some new) → R held now
+  pub held-by : (R : Option OpenDesk → Option OpenDesk → Type 0) → R (Some old) (Some new) → R held now
   held-by R r = subst (λ h. R h now) is (subst (λ h. R (Some old) h) (sym put) r)
 
   pub held-desk : (f : Option Desk → Option Desk) → ((s : Option Desk) → SeenBy old.console s → SeenBy new.console (f s))
@@ -133,8 +133,8 @@ module _ {held now : Option Station} {old new : Station} (is : Some old ≡ held
   held-same same = put ∙ ap Some same ∙ is
 
 -- one that had none
-module _ {held now : Option Station} (is : None ≡ held) (left : now ≡ None) where
-  pub none-by : (R : Option Station → Option Station → Type 0) → R None None → R held now
+module _ {held now : Option OpenDesk} (is : None ≡ held) (left : now ≡ None) where
+  pub none-by : (R : Option OpenDesk → Option OpenDesk → Type 0) → R None None → R held now
   none-by R r = subst (λ h. R h now) is (subst (λ h. R None h) (sym left) r)
 
   pub none-said : (command : Option Command) (s : Option Desk) → SeenBy (console_in held) s → Closed ≡ called s command

@@ -5,7 +5,7 @@ use Rattle.rh_defs.specs.declared.command.Command.TheVariants as command
 use Rattle.rh_defs.specs.declared.command.Manner.{Manner}
 use Rattle.rh_defs.specs.declared.command.Manner.TheVariants.{Plain, Deaf, File}
 use Rattle.rh_defs.specs.Forms.{is_name, is_anchor}
-use Rattle.vf_desk.specs.Called.{in_form}
+use Rattle.vf_desk.specs.CallOutcome.{in_form}
 
 -- a name, if these bytes are one
 abbrev pub name_read : List ℕ → Option (List ℕ)

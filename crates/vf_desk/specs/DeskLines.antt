@@ -5,7 +5,7 @@ use Rattle.rh_console.specs.Said.{said_text}
 use Rattle.rh_console.specs.declared.console.Console.{Console}
 use Rattle.rh_defs.specs.Desk.{Desk}
 use Rattle.rh_defs.specs.Script.{line_desk, line_text}
-use Rattle.vf_desk.specs.declared.station.Station.{Station}
+use Rattle.vf_desk.specs.declared.open_desk.OpenDesk.{OpenDesk}
 use Rattle.vf_desk.specs.SeenDesk.{SeenBy, console_in, files_in}
 use Rattle.vf_desk.specs.DeskStatus.{closed_status, short}
 
@@ -25,7 +25,7 @@ kept_text None d = []
 kept_text (Some console) d = said_text d console.said
 
 -- A line is taken: the desk is the one after it, and its reply is kept. Where the desk isn't open all stays.
-pub record TakesLine (line : List ℕ) (old new : Option Station) (status : ℕ) : Type 0 where
+pub record TakesLine (line : List ℕ) (old new : Option OpenDesk) (status : ℕ) : Type 0 where
   pub status_is : (s : Option Desk) → SeenBy (console_in old) s → status ≡ line_status s
   pub desk : (s : Option Desk) → SeenBy (console_in old) s → SeenBy (console_in new) (desk_after s line)
   pub kept : (d : Desk) → SeenBy (console_in old) (Some d) →
@@ -47,7 +47,7 @@ pub record Stays (before after : List ℕ) (was now status : ℕ) : Type 0 where
   pub length_is : now ≡ was
 
 -- Lent bytes have the text of the reply that is kept, over the desk as it is.
-pub record Replies (held : Option Station) (before after : List ℕ) (was now status : ℕ) : Type 0 where
+pub record Replies (held : Option OpenDesk) (before after : List ℕ) (was now status : ℕ) : Type 0 where
   pub fills : (d : Desk) → SeenBy (console_in held) (Some d) →
       Fills (kept_text (console_in held) d) before after was now status
   pub stays : SeenBy (console_in held) None → Stays before after was now status

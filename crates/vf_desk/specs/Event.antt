@@ -6,14 +6,14 @@ use Rattle.rh_defs.specs.declared.reply.Outcome.TheVariants as outcome
 use Rattle.rh_defs.specs.declared.reply.Reply.{Reply}
 use Rattle.rh_defs.specs.declared.reply.Reply.TheVariants as reply
 use Rattle.rh_defs.specs.Messages.{action_number, code_number}
-use Rattle.vf_desk.specs.declared.called.Called.{Called}
-use Rattle.vf_desk.specs.declared.called.Called.TheVariants.{Said}
-use Rattle.vf_desk.specs.declared.event.Deed.{Deed}
+use Rattle.vf_desk.specs.declared.call_outcome.CallOutcome.{CallOutcome}
+use Rattle.vf_desk.specs.declared.call_outcome.CallOutcome.TheVariants.{Said}
+use Rattle.vf_desk.specs.declared.event.EventDeed.{EventDeed}
 use Rattle.vf_desk.specs.declared.event.VfEvent.{VfEvent}
 use Rattle.vf_desk.specs.DeskStatus.{refusal_number}
 
 -- what was done with a message: the deed, the bytes that were moved, the ref of the message that was sent, the refusal
-abbrev pub deed_with : ℕ → ℕ → ℕ → ℕ → Deed
+abbrev pub deed_with : ℕ → ℕ → ℕ → ℕ → EventDeed
 deed_with did count sent refusal = record { did = did; count = count; sent = sent; refusal = refusal }
 
 -- the ref of the message that is sent next on a desk; 0 on a closed one, or where the last ref was given
@@ -22,7 +22,7 @@ next_ref_in None = 0
 next_ref_in (Some d) = if nat_lt (next_ref d) (2 ^ 32) then next_ref d else 0
 
 -- the deed of an outcome; the reply of a loaded file doesn't name the DataLoadAck, whose ref is therefore given
-abbrev pub deed_of : ℕ → Outcome → Deed
+abbrev pub deed_of : ℕ → Outcome → EventDeed
 deed_of ack outcome.Ignored = deed_with 0 0 0 0
 deed_of ack (outcome.Fetch fetch) = deed_with 1 0 fetch 0
 deed_of ack (outcome.Sent count transmit) = deed_with 2 count transmit 0
@@ -39,7 +39,7 @@ deed_of ack (outcome.LoadedFailed count refusal) = deed_with 12 count 0 (refusal
 deed_of ack outcome.Done = deed_with 13 0 0 0
 
 -- the event of these first words, and of a deed
-abbrev pub event_with : ℕ → ℕ → ℕ → ℕ → Deed → VfEvent
+abbrev pub event_with : ℕ → ℕ → ℕ → ℕ → EventDeed → VfEvent
 event_with code action mine yours deed = record {
   code = code;
   action = action;
@@ -58,6 +58,6 @@ event_told ack (reply.Event code action mine yours out) old =
     event_with (code_number code) (action_number action) mine yours (deed_of ack out)
 event_told ack _ old = old
 
-abbrev pub event_or : ℕ → Called → VfEvent → VfEvent
+abbrev pub event_or : ℕ → CallOutcome → VfEvent → VfEvent
 event_or ack (Said r) old = event_told ack r old
 event_or ack _ old = old

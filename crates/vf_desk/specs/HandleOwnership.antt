@@ -5,7 +5,7 @@ use Rattle.std.specs.Prelude.{Option, Some, None}
 use Rattle.std.specs.Box.Ownership.{box_owns}
 use Rattle.std.specs.declared.alloc.Global.{Global}
 use Rattle.std.specs.contracts.impls.GlobalAllocator.TheImpl.{ghosts}
-use Rattle.vf_desk.specs.contracts.station.Station.{the_row}
+use Rattle.vf_desk.specs.contracts.open_desk.OpenDesk.{the_row}
 
 -- what a box with this value owns, or nothing
 abbrev pub handle_owns : Global → Ptr → Option the_row.Denot → Fml

@@ -1,4 +1,4 @@
-pub mod Called
+pub mod CallOutcome
 pub mod DeskForms
 pub mod DeskItems
 pub mod DeskLines

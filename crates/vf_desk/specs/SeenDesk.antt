@@ -6,17 +6,17 @@ use Rattle.rh_defs.specs.Order.{IsReordered}
 use Rattle.rh_console.specs.declared.console.Console.{Console}
 use Rattle.rh_console.specs.declared.said.Said.{Said}
 use Rattle.vf_desk.specs.declared.desk.VfDesk.{VfDesk}
-use Rattle.vf_desk.specs.declared.station.Station.{Station}
+use Rattle.vf_desk.specs.declared.open_desk.OpenDesk.{OpenDesk}
 
 -- the desk of a handle that is open, with the reply of its last line
-abbrev pub console_in : Option Station → Option Console
+abbrev pub console_in : Option OpenDesk → Option Console
 console_in None = None
-console_in (Some station) = station.console
+console_in (Some open_desk) = open_desk.console
 
 -- the files that wait for it to be opened
-abbrev pub files_in : Option Station → FileList
+abbrev pub files_in : Option OpenDesk → FileList
 files_in None = []
-files_in (Some station) = station.files
+files_in (Some open_desk) = open_desk.files
 
 -- the reply that is kept
 abbrev pub said_in : Option Console → Option Said
@@ -24,7 +24,7 @@ said_in None = None
 said_in (Some console) = Some console.said
 
 -- the files that wait and the reply of the last line stay
-pub record KeepsRest (old new : Option Station) : Type 0 where
+pub record KeepsRest (old new : Option OpenDesk) : Type 0 where
   pub files : files_in new ≡ files_in old
   pub said : said_in (console_in new) ≡ said_in (console_in old)
 
@@ -36,4 +36,4 @@ SeenBy (Some console) (Some d) = IsReordered d console.world.desk
 SeenBy _ _ = ⊥
 
 abbrev pub IsSeenDesk : VfDesk → Option Desk → Type 0
-IsSeenDesk v s = SeenBy (console_in v.handle.station) s
+IsSeenDesk v s = SeenBy (console_in v.handle.open_desk) s

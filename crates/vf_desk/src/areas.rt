@@ -2,7 +2,7 @@
 ghost use Rattle.std.specs.Prelude.{◌≡◌, Option};
 ghost use Rattle.rh_defs.specs.Desk.{Desk};
 ghost use Rattle.rh_defs.specs.declared.command.Command.TheVariants as Command;
-ghost use Rattle.vf_desk.specs.Called.{DoesCalled, called, in_form, number_or};
+ghost use Rattle.vf_desk.specs.CallOutcome.{DoesCalled, called, in_form, number_or};
 ghost use Rattle.vf_desk.specs.SeenDesk.{IsSeenDesk};
 
 use crate::desk::VfDesk;
@@ -24,7 +24,7 @@ pub extern "C" fn vf_desk_area(
         bytes.new ≡ number_or (called s (in_form (Command.Area number delta))) bytes.old }
 {
     let command = checked(Command::Area { number, delta });
-    desk.step(alloc, &command).told(bytes)
+    desk.step(alloc, &command).give_number(bytes)
 }
 
 /// Makes an area of no page, and of at most `most` pages, and tells its number. (OS_DynamicArea 0.)
@@ -35,7 +35,7 @@ pub extern "C" fn vf_desk_make(alloc: Global, desk: &mut VfDesk, most: u32, numb
         number.new ≡ number_or (called s (in_form (Command.Make most))) number.old }
 {
     let command = checked(Command::Make { most });
-    desk.step(alloc, &command).told(number)
+    desk.step(alloc, &command).give_number(number)
 }
 
 /// Takes a made area away; its pages are free then. (OS_DynamicArea 1.)
@@ -60,7 +60,7 @@ pub extern "C" fn vf_desk_rma_claim(
         address.new ≡ number_or (called s (in_form (Command.RmaClaim size))) address.old }
 {
     let command = checked(Command::RmaClaim { size });
-    desk.step(alloc, &command).told(address)
+    desk.step(alloc, &command).give_number(address)
 }
 
 /// Frees the block at an address of the module area. (OS_Module 7.)
@@ -86,5 +86,5 @@ pub extern "C" fn vf_desk_rma_resize(
         moved_to.new ≡ number_or (called s (in_form (Command.RmaResize address delta))) moved_to.old }
 {
     let command = checked(Command::RmaResize { address, delta });
-    desk.step(alloc, &command).told(moved_to)
+    desk.step(alloc, &command).give_number(moved_to)
 }

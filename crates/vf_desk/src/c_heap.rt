@@ -2,7 +2,7 @@
 ghost use Rattle.std.specs.Prelude.{◌≡◌, Option};
 ghost use Rattle.rh_defs.specs.Desk.{Desk};
 ghost use Rattle.rh_defs.specs.declared.command.Command.TheVariants as Command;
-ghost use Rattle.vf_desk.specs.Called.{DoesCalled, called, in_form, number_or, was_or};
+ghost use Rattle.vf_desk.specs.CallOutcome.{DoesCalled, called, in_form, number_or, was_or};
 ghost use Rattle.vf_desk.specs.SeenDesk.{IsSeenDesk};
 
 use crate::desk::VfDesk;
@@ -22,7 +22,8 @@ pub extern "C" fn vf_desk_claim(
     ensures address { (s : Option Desk) → IsSeenDesk desk.old s →
         address.new ≡ number_or (called s (in_form (Command.Claim name.now size))) address.old }
 {
-    desk.step(alloc, &forms::claim(name, size)).told(address)
+    desk.step(alloc, &forms::claim(name, size))
+        .give_number(address)
 }
 
 /// Releases the block at an address. (OS_Heap 3.)
@@ -53,7 +54,7 @@ pub extern "C" fn vf_desk_resize(
         moved_to.new ≡ number_or (called s (in_form (Command.Resize name.now address delta))) moved_to.old }
 {
     desk.step(alloc, &forms::resize(name, address, delta))
-        .told(moved_to)
+        .give_number(moved_to)
 }
 
 /// Turns budging on or off, and tells whether it was on. (flex_set_budge.)
@@ -69,5 +70,5 @@ pub extern "C" fn vf_desk_budge(
     ensures was { (s : Option Desk) → IsSeenDesk desk.old s →
         was.new ≡ was_or (called s (in_form (Command.Budge name.now on))) was.old }
 {
-    desk.step(alloc, &forms::budge(name, on)).told_was(was)
+    desk.step(alloc, &forms::budge(name, on)).give_was(was)
 }

@@ -4,12 +4,12 @@ ghost use Rattle.std.specs.Prelude.{◌≡◌, is_some};
 
 mod steps;
 
-use crate::handle::StationHandle;
+use crate::handle::OpenDeskHandle;
 
 /// A desk. One of zeros alone is closed, and has no file.
 #[repr(C)]
 pub struct VfDesk {
-    pub handle: StationHandle,
+    pub handle: OpenDeskHandle,
     pub live: bool,
-    pub ghost known: { live ≡ is_some handle.station },
+    pub ghost known: { live ≡ is_some handle.open_desk },
 }

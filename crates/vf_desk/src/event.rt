@@ -1,10 +1,10 @@
 //! What a poll took and did, as a struct of numbers.
 ghost use Rattle.std.specs.Prelude.{◌≡◌};
-ghost use Rattle.vf_desk.specs.Called.{status_of};
+ghost use Rattle.vf_desk.specs.CallOutcome.{status_of};
 ghost use Rattle.vf_desk.specs.DeskStatus.{refusal_number};
 ghost use Rattle.vf_desk.specs.Event.{deed_of, deed_with, event_or};
 
-use crate::called::Called;
+use crate::call_outcome::CallOutcome;
 use crate::status::refusal_number;
 use rh_defs::{Outcome, Refusal, Reply};
 
@@ -74,26 +74,26 @@ pub struct VfEvent {
 
 /// What was done with a message, as the last four fields of an event.
 #[derive(Clone, Copy)]
-pub struct Deed {
+pub struct EventDeed {
     pub did: u32,
     pub count: u32,
     pub sent: u32,
     pub refusal: u32,
 }
 
-impl Deed {
+impl EventDeed {
     /// What was done with nothing moved, sent or refused.
-    fn plain(did: u32) -> Deed
+    fn plain(did: u32) -> EventDeed
         ensures { result ≡ deed_with did 0 0 0 }
     {
-        Deed::moved(did, 0, 0)
+        EventDeed::moved(did, 0, 0)
     }
 
     /// What was done with bytes moved, and a message sent where its ref isn't 0.
-    fn moved(did: u32, count: u32, sent: u32) -> Deed
+    fn moved(did: u32, count: u32, sent: u32) -> EventDeed
         ensures { result ≡ deed_with did count sent 0 }
     {
-        Deed {
+        EventDeed {
             did,
             count,
             sent,
@@ -102,10 +102,10 @@ impl Deed {
     }
 
     /// What was done up to a refusal.
-    fn refused(did: u32, count: u32, refusal: Refusal) -> Deed
+    fn refused(did: u32, count: u32, refusal: Refusal) -> EventDeed
         ensures { result ≡ deed_with did count 0 (refusal_number refusal) }
     {
-        Deed {
+        EventDeed {
             did,
             count,
             sent: 0,
@@ -115,28 +115,28 @@ impl Deed {
 }
 
 /// An outcome's deed. A DataLoadAck that was sent has the ref `ack`.
-fn done_with(outcome: &Outcome, ack: u32) -> Deed
+fn done_with(outcome: &Outcome, ack: u32) -> EventDeed
     ensures { result ≡ deed_of ack outcome.now }
 {
     match outcome {
-        Outcome::Ignored => Deed::plain(DID_NOTHING),
-        Outcome::Fetch(fetch) => Deed::moved(DID_FETCH, 0, fetch.0),
-        Outcome::Sent { count, transmit } => Deed::moved(DID_SEND, *count, transmit.0),
-        Outcome::Refused(refusal) => Deed::refused(DID_REFUSE, 0, *refusal),
-        Outcome::Failed => Deed::plain(DID_FAIL),
-        Outcome::Drained => Deed::plain(DID_DRAIN),
-        Outcome::TookLast { count } => Deed::moved(DID_TAKE_LAST, *count, 0),
-        Outcome::TookFull { count, fetch } => Deed::moved(DID_TAKE, *count, fetch.0),
+        Outcome::Ignored => EventDeed::plain(DID_NOTHING),
+        Outcome::Fetch(fetch) => EventDeed::moved(DID_FETCH, 0, fetch.0),
+        Outcome::Sent { count, transmit } => EventDeed::moved(DID_SEND, *count, transmit.0),
+        Outcome::Refused(refusal) => EventDeed::refused(DID_REFUSE, 0, *refusal),
+        Outcome::Failed => EventDeed::plain(DID_FAIL),
+        Outcome::Drained => EventDeed::plain(DID_DRAIN),
+        Outcome::TookLast { count } => EventDeed::moved(DID_TAKE_LAST, *count, 0),
+        Outcome::TookFull { count, fetch } => EventDeed::moved(DID_TAKE, *count, fetch.0),
         Outcome::TookFailed { count, refusal } => {
-            Deed::refused(DID_TAKE_AND_FAIL, *count, *refusal)
+            EventDeed::refused(DID_TAKE_AND_FAIL, *count, *refusal)
         }
-        Outcome::Asked(ack) => Deed::moved(DID_ASK, 0, ack.0),
-        Outcome::Saved { count, load } => Deed::moved(DID_SAVE, *count, load.0),
-        Outcome::Loaded { count } => Deed::moved(DID_LOAD, *count, ack),
+        Outcome::Asked(ack) => EventDeed::moved(DID_ASK, 0, ack.0),
+        Outcome::Saved { count, load } => EventDeed::moved(DID_SAVE, *count, load.0),
+        Outcome::Loaded { count } => EventDeed::moved(DID_LOAD, *count, ack),
         Outcome::LoadedFailed { count, refusal } => {
-            Deed::refused(DID_LOAD_AND_FAIL, *count, *refusal)
+            EventDeed::refused(DID_LOAD_AND_FAIL, *count, *refusal)
         }
-        Outcome::Done => Deed::plain(DID_FINISH),
+        Outcome::Done => EventDeed::plain(DID_FINISH),
     }
 }
 
@@ -153,12 +153,12 @@ const NONE: VfEvent = VfEvent {
 };
 
 /// What a poll came to as an event, or the old one where it wasn't done.
-fn event(called: &Called, ack: u32, old: VfEvent) -> VfEvent
+fn event(called: &CallOutcome, ack: u32, old: VfEvent) -> VfEvent
     ensures { result ≡ event_or ack called.now old }
 {
     match called {
-        Called::Said(Reply::NoEvent) => NONE,
-        Called::Said(
+        CallOutcome::Said(Reply::NoEvent) => NONE,
+        CallOutcome::Said(
             Reply::Event {
                 code,
                 action,
@@ -167,7 +167,7 @@ fn event(called: &Called, ack: u32, old: VfEvent) -> VfEvent
                 outcome,
             },
         ) => {
-            let Deed {
+            let EventDeed {
                 did,
                 count,
                 sent,
@@ -189,7 +189,7 @@ fn event(called: &Called, ack: u32, old: VfEvent) -> VfEvent
 }
 
 /// The status of a poll. What it took and did is told, if it was done; `ack` is the ref of a DataLoadAck that it sent.
-pub fn told_event(called: &Called, ack: u32, to: &mut VfEvent) -> u32
+pub fn give_event(called: &CallOutcome, ack: u32, to: &mut VfEvent) -> u32
     ensures status { result ≡ status_of called.now }
     ensures event { to.new ≡ event_or ack called.now to.old }
 {

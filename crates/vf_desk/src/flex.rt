@@ -2,7 +2,7 @@
 ghost use Rattle.std.specs.Prelude.{◌≡◌, Option};
 ghost use Rattle.rh_defs.specs.Desk.{Desk};
 ghost use Rattle.rh_defs.specs.declared.command.Command.TheVariants as Command;
-ghost use Rattle.vf_desk.specs.Called.{DoesCalled, called, in_form, number_or};
+ghost use Rattle.vf_desk.specs.CallOutcome.{DoesCalled, called, in_form, number_or};
 ghost use Rattle.vf_desk.specs.SeenDesk.{IsSeenDesk};
 
 use crate::desk::VfDesk;
@@ -24,7 +24,7 @@ pub extern "C" fn vf_desk_alloc(
         address.new ≡ number_or (called s (in_form (Command.Alloc name.now anchor size))) address.old }
 {
     desk.step(alloc, &forms::alloc(name, anchor, size))
-        .told(address)
+        .give_number(address)
 }
 
 /// Puts a block with a file's bytes on top of the task's slot, and tells its address. (flex_alloc, OS_File 16.)
@@ -42,7 +42,7 @@ pub extern "C" fn vf_desk_load(
         address.new ≡ number_or (called s (in_form (Command.Load name.now anchor file.now))) address.old }
 {
     desk.step(alloc, &forms::load(name, anchor, file))
-        .told(address)
+        .give_number(address)
 }
 
 /// Writes bytes, one at least, into the anchor's block, from an offset in it on.

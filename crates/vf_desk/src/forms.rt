@@ -5,7 +5,7 @@ ghost use Rattle.std.specs.Prelude.{◌≡◌, true, IfSome};
 ghost use Rattle.rh_defs.specs.Range.{in_range};
 ghost use Rattle.rh_defs.specs.declared.command.Command.TheVariants as Command;
 ghost use Rattle.rh_defs.specs.declared.question.Question.TheVariants as Question;
-ghost use Rattle.vf_desk.specs.Called.{in_form};
+ghost use Rattle.vf_desk.specs.CallOutcome.{in_form};
 ghost use Rattle.vf_desk.specs.DeskForms.{anchor_in, id_in, manner_at, name_read, task_form};
 
 use arrayvec::ArrayVec;

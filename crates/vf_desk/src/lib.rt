@@ -1,12 +1,12 @@
 //! The desk for programs in C: a handle, a call for each command, lines and their replies.
 //!
 //! A desk is held by the address of a box (`handle`); all else is safe code. Each call with a command makes the command
-//! of its arguments (`forms`), does it (`station`), and takes the words and numbers of the reply apart (`called`).
+//! of its arguments (`forms`), does it (`open desk`), and takes the words and numbers of the reply apart (`called`).
 #![tactic(auto)]
 
 mod areas;
 mod c_heap;
-mod called;
+mod call_outcome;
 mod desk;
 mod event;
 mod flex;
@@ -17,8 +17,8 @@ mod lines;
 mod listing;
 mod lists;
 mod next;
+mod open_desk;
 mod opening;
 mod questions;
-mod station;
 mod status;
 mod tasks;

@@ -6,7 +6,7 @@ ghost use Rattle.rh_console.specs.Said.{said_text};
 ghost use Rattle.vf_desk.specs.DeskLines.{Fills, Replies, TakesLine};
 
 use crate::desk::VfDesk;
-use crate::station::Station;
+use crate::open_desk::OpenDesk;
 use crate::status::{CLOSED, OK, SHORT};
 use rh_console::Console;
 use std::alloc::Global;
@@ -14,13 +14,13 @@ use std::alloc::Global;
 /// Takes a line without its line feed, and keeps its reply.
 #[unsafe(no_mangle)]
 pub extern "C" fn vf_desk_line(alloc: Global, desk: &mut VfDesk, line: &[u8]) -> u32
-    ensures { TakesLine line.now desk.old.handle.station desk.new.handle.station result }
+    ensures { TakesLine line.now desk.old.handle.open_desk desk.new.handle.open_desk result }
 {
-    let Some(mut station) = desk.take(alloc) else {
+    let Some(mut open_desk) = desk.take(alloc) else {
         return CLOSED;
     };
-    let status = station.take_line(line);
-    desk.put(station);
+    let status = open_desk.take_line(line);
+    desk.put(open_desk);
     status
 }
 
@@ -33,18 +33,18 @@ pub extern "C" fn vf_desk_reply(
     text: &mut [u8],
     length: &mut usize,
 ) -> u32
-    ensures replies { Replies desk.old.handle.station text.old text.new length.old length.new result }
-    ensures same { desk.new.handle.station ≡ desk.old.handle.station }
+    ensures replies { Replies desk.old.handle.open_desk text.old text.new length.old length.new result }
+    ensures same { desk.new.handle.open_desk ≡ desk.old.handle.open_desk }
 {
-    let Some(station) = desk.take(alloc) else {
+    let Some(open_desk) = desk.take(alloc) else {
         return CLOSED;
     };
-    let status = station.reply(text, length);
-    desk.put(station);
+    let status = open_desk.reply(text, length);
+    desk.put(open_desk);
     status
 }
 
-impl Station {
+impl OpenDesk {
     /// Takes a line, and keeps its reply: CLOSED.
     fn take_line(&mut self, line: &[u8]) -> u32
         ensures { TakesLine line.now (Some self.old) (Some self.new) result }

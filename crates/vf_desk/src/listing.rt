@@ -12,9 +12,9 @@ use crate::items::{VfArea, VfBlock, VfRecord, VfSegment};
 use crate::lists::{
     NO_RECORDS, RecordCounts, list_areas, list_blocks, list_bytes, list_records, list_segments,
 };
-use crate::station::Station;
+use crate::open_desk::OpenDesk;
 
-impl Station {
+impl OpenDesk {
     /// Fills a slice with the first bytes of the task's block at the anchor.
     pub fn bytes(&self, name: &[u8], anchor: u32, to: &mut [u8])
         ensures { (s : Option Desk) → SeenBy self.now.console s →

@@ -7,7 +7,7 @@ ghost use Rattle.vf_desk.specs.SeenDesk.{IsSeenDesk, SeenBy};
 
 use crate::desk::VfDesk;
 use crate::forms::name_of;
-use crate::station::Station;
+use crate::open_desk::OpenDesk;
 use crate::status::{BAD_ARGUMENT, CLOSED, OK, refusal_number};
 use std::alloc::Global;
 
@@ -32,20 +32,20 @@ pub extern "C" fn vf_desk_next(
     code: &mut u32,
 ) -> u32
     ensures status { (s : Option Desk) → IsSeenDesk desk.old s → result ≡ status_of_next (next_in s name.now) }
-    ensures same { desk.new.handle.station ≡ desk.old.handle.station }
+    ensures same { desk.new.handle.open_desk ≡ desk.old.handle.open_desk }
     ensures message { (s : Option Desk) → IsSeenDesk desk.old s →
         message.new.bytes ≡ with_message (next_parcel (next_in s name.now)) message.old.bytes }
     ensures code { (s : Option Desk) → IsSeenDesk desk.old s → code.new ≡ code_or (next_in s name.now) code.old }
 {
-    let Some(station) = desk.take(alloc) else {
+    let Some(open_desk) = desk.take(alloc) else {
         return CLOSED;
     };
-    let status = station.next(name, message, code);
-    desk.put(station);
+    let status = open_desk.next(name, message, code);
+    desk.put(open_desk);
     status
 }
 
-impl Station {
+impl OpenDesk {
     /// Tells the message that the task's next poll would take, and its code.
     fn next(&self, name: &[u8], message: &mut VfMessage, code: &mut u32) -> u32
         ensures status { (s : Option Desk) → SeenBy self.now.console s → result ≡ status_of_next (next_in s name.now) }

@@ -7,7 +7,7 @@ ghost use Rattle.vf_desk.specs.DeskStatus.{no_memory};
 
 use crate::desk::VfDesk;
 use crate::forms::name_of;
-use crate::station::Station;
+use crate::open_desk::OpenDesk;
 use crate::status::{BAD_ARGUMENT, BAD_LENGTH, FILE_EXISTS, NO_MEMORY, OK, OPEN};
 use rh_console::Console;
 use rh_defs::sizes::{LONGEST_FILE, MAX_PAGES, MIN_PAGES};
@@ -17,27 +17,27 @@ use std::alloc::{AllocError, Global};
 /// Adds a named file, which `load` finds once the desk is open.
 #[unsafe(no_mangle)]
 pub extern "C" fn vf_desk_file(alloc: Global, desk: &mut VfDesk, name: &[u8], bytes: &[u8]) -> u32
-    ensures { Adds name.now bytes.now desk.old.handle.station desk.new.handle.station result }
+    ensures { Adds name.now bytes.now desk.old.handle.open_desk desk.new.handle.open_desk result }
 {
-    let Some(mut station) = desk.take(alloc) else {
+    let Some(mut open_desk) = desk.take(alloc) else {
         return first_file(alloc, desk, name, bytes);
     };
-    let status = station.add_file(alloc, name, bytes);
-    desk.put(station);
+    let status = open_desk.add_file(alloc, name, bytes);
+    desk.put(open_desk);
     status
 }
 
 /// The same, where the handle has nothing yet.
 fn first_file(alloc: Global, desk: &mut VfDesk, name: &[u8], bytes: &[u8]) -> u32
-    requires { desk.old.handle.station ≡ None }
-    ensures { Adds name.now bytes.now desk.old.handle.station desk.new.handle.station result }
+    requires { desk.old.handle.open_desk ≡ None }
+    ensures { Adds name.now bytes.now desk.old.handle.open_desk desk.new.handle.open_desk result }
 {
-    let mut station = Station::new(alloc);
-    let status = station.add_file(alloc, name, bytes);
+    let mut open_desk = OpenDesk::new(alloc);
+    let status = open_desk.add_file(alloc, name, bytes);
     if status != OK {
         return status;
     }
-    put_new(alloc, desk, station)
+    put_new(alloc, desk, open_desk)
 }
 
 /// Opens a desk of 8 to 1,024 pages with the files that were added, whose first handle and ref are these, from 1 on.
@@ -49,46 +49,46 @@ pub extern "C" fn vf_desk_open(
     first_handle: u32,
     first_ref: u32,
 ) -> u32
-    ensures { Opens pages first_handle first_ref desk.old.handle.station desk.new.handle.station result }
+    ensures { Opens pages first_handle first_ref desk.old.handle.open_desk desk.new.handle.open_desk result }
 {
-    let Some(mut station) = desk.take(alloc) else {
+    let Some(mut open_desk) = desk.take(alloc) else {
         return open_new(alloc, desk, pages, first_handle, first_ref);
     };
-    let status = station.open(alloc, pages, first_handle, first_ref);
-    desk.put(station);
+    let status = open_desk.open(alloc, pages, first_handle, first_ref);
+    desk.put(open_desk);
     status
 }
 
 /// The same, where the handle has nothing yet.
 fn open_new(alloc: Global, desk: &mut VfDesk, pages: u32, first_handle: u32, first_ref: u32) -> u32
-    requires { desk.old.handle.station ≡ None }
-    ensures { Opens pages first_handle first_ref desk.old.handle.station desk.new.handle.station result }
+    requires { desk.old.handle.open_desk ≡ None }
+    ensures { Opens pages first_handle first_ref desk.old.handle.open_desk desk.new.handle.open_desk result }
 {
-    let mut station = Station::new(alloc);
-    let status = station.open(alloc, pages, first_handle, first_ref);
+    let mut open_desk = OpenDesk::new(alloc);
+    let status = open_desk.open(alloc, pages, first_handle, first_ref);
     if status != OK {
         return status;
     }
-    put_new(alloc, desk, station)
+    put_new(alloc, desk, open_desk)
 }
 
 /// Closes a desk, and gives back all that it took. A closed one with no file stays as it is.
 #[unsafe(no_mangle)]
 pub extern "C" fn vf_desk_close(alloc: Global, desk: &mut VfDesk) -> u32
     ensures status { result ≡ 0 }
-    ensures closed { desk.new.handle.station ≡ None }
+    ensures closed { desk.new.handle.open_desk ≡ None }
 {
     let _station = desk.take(alloc);
     OK
 }
 
-/// Puts a station into a handle that has nothing, or answers that memory is refused.
-fn put_new(alloc: Global, desk: &mut VfDesk, station: Station) -> u32
-    requires { desk.old.handle.station ≡ None }
-    ensures { ((result ≡ 0) × (desk.new.handle.station ≡ Some station)) ⊎
-        ((result ≡ no_memory) × (desk.new.handle.station ≡ None)) }
+/// Puts a open desk into a handle that has nothing, or answers that memory is refused.
+fn put_new(alloc: Global, desk: &mut VfDesk, open_desk: OpenDesk) -> u32
+    requires { desk.old.handle.open_desk ≡ None }
+    ensures { ((result ≡ 0) × (desk.new.handle.open_desk ≡ Some open_desk)) ⊎
+        ((result ≡ no_memory) × (desk.new.handle.open_desk ≡ None)) }
 {
-    match Box::new(alloc, station) {
+    match Box::new(alloc, open_desk) {
         Ok(boxed) => {
             desk.put(boxed);
             OK
@@ -97,13 +97,13 @@ fn put_new(alloc: Global, desk: &mut VfDesk, station: Station) -> u32
     }
 }
 
-impl Station {
+impl OpenDesk {
     /// No file, and no desk that is open.
-    pub fn new(alloc: Global) -> Station
+    pub fn new(alloc: Global) -> OpenDesk
         ensures files { result.files ≡ [] }
         ensures console { result.console ≡ None }
     {
-        Station {
+        OpenDesk {
             files: Files::new(alloc),
             console: None,
         }
@@ -151,10 +151,10 @@ impl Station {
 }
 
 /// Whether a desk can be opened so, if memory is granted.
-fn opening_status(station: &Station, pages: u32, first_handle: u32, first_ref: u32) -> u32
-    ensures { result ≡ opening_status (Some station.now) pages first_handle first_ref }
+fn opening_status(open_desk: &OpenDesk, pages: u32, first_handle: u32, first_ref: u32) -> u32
+    ensures { result ≡ opening_status (Some open_desk.now) pages first_handle first_ref }
 {
-    if station.console.is_some() {
+    if open_desk.console.is_some() {
         return OPEN;
     }
     let pages = pages as usize;

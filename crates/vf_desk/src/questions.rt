@@ -4,7 +4,7 @@ ghost use Rattle.rh_console.specs.Console.{filled_front};
 ghost use Rattle.rh_defs.specs.Desk.{Desk};
 ghost use Rattle.rh_defs.specs.declared.command.Command.TheVariants as Command;
 ghost use Rattle.rh_defs.specs.declared.question.Question.TheVariants as Question;
-ghost use Rattle.vf_desk.specs.Called.{Asks, called, done_or, in_form, number_or, sums_or};
+ghost use Rattle.vf_desk.specs.CallOutcome.{Asks, called, done_or, in_form, number_or, sums_or};
 ghost use Rattle.vf_desk.specs.DeskItems.{as_area, areas_listed, as_block, blocks_listed, bytes_listed, incoming_in};
 ghost use Rattle.vf_desk.specs.DeskItems.{list_asked, outgoing_in, record_of, as_segment, segments_listed};
 ghost use Rattle.vf_desk.specs.SeenDesk.{IsSeenDesk};
@@ -32,12 +32,12 @@ pub extern "C" fn vf_desk_show(
         to.new ≡ filled_front (bytes_listed (list_asked s (Question.Show name.now anchor))) to.old }
 {
     let called = desk.step(alloc, &forms::show(name, anchor));
-    let Some(station) = desk.take(alloc) else {
+    let Some(open_desk) = desk.take(alloc) else {
         return called.status();
     };
-    station.bytes(name, anchor, to);
-    desk.put(station);
-    called.told(size)
+    open_desk.bytes(name, anchor, to);
+    desk.put(open_desk);
+    called.give_number(size)
 }
 
 /// Lists the task's flex blocks from below, and tells how many there are.
@@ -57,12 +57,12 @@ pub extern "C" fn vf_desk_blocks(
         (length (blocks_listed (list_asked s (Question.Blocks name.now)))) count.old }
 {
     let called = desk.step(alloc, &forms::blocks(name));
-    let Some(station) = desk.take(alloc) else {
+    let Some(open_desk) = desk.take(alloc) else {
         return called.status();
     };
-    let n = station.blocks(name, blocks);
-    desk.put(station);
-    called.told_count(n, count)
+    let n = open_desk.blocks(name, blocks);
+    desk.put(open_desk);
+    called.give_count(n, count)
 }
 
 /// Tells the sums over the task's C heap, lists its segments from below, and tells how many there are. (OS_Heap 1.)
@@ -86,13 +86,13 @@ pub extern "C" fn vf_desk_heap(
         (length (segments_listed (list_asked s (Question.Heap name.now)))) count.old }
 {
     let called = desk.step(alloc, &forms::heap(name));
-    let Some(station) = desk.take(alloc) else {
+    let Some(open_desk) = desk.take(alloc) else {
         return called.status();
     };
-    let n = station.segments(name, segments);
-    desk.put(station);
-    called.told_count(n, count);
-    called.told_sums(sums)
+    let n = open_desk.segments(name, segments);
+    desk.put(open_desk);
+    called.give_count(n, count);
+    called.give_sums(sums)
 }
 
 /// Tells the task's handle, lists the records of its transfers each way, and tells how many there are.
@@ -124,14 +124,14 @@ pub extern "C" fn vf_desk_status(
         (length (incoming_in (list_asked s (Question.Status name.now)))) ins.old }
 {
     let called = desk.step(alloc, &forms::status(name));
-    let Some(station) = desk.take(alloc) else {
+    let Some(open_desk) = desk.take(alloc) else {
         return called.status();
     };
-    let counts = station.records(name, outgoing, incoming);
-    desk.put(station);
-    called.told_count(counts.outgoing, outs);
-    called.told_count(counts.incoming, ins);
-    called.told(handle)
+    let counts = open_desk.records(name, outgoing, incoming);
+    desk.put(open_desk);
+    called.give_count(counts.outgoing, outs);
+    called.give_count(counts.incoming, ins);
+    called.give_number(handle)
 }
 
 /// Tells the free pages, lists areas 0 to 5, the made ones and the slots, and tells how many there are.
@@ -154,11 +154,11 @@ pub extern "C" fn vf_desk_areas(
         (length (areas_listed (list_asked s Question.Areas))) count.old }
 {
     let called = desk.step(alloc, &forms::asked(Question::Areas));
-    let Some(station) = desk.take(alloc) else {
+    let Some(open_desk) = desk.take(alloc) else {
         return called.status();
     };
-    let n = station.areas(areas);
-    desk.put(station);
-    called.told_count(n, count);
-    called.told(free)
+    let n = open_desk.areas(areas);
+    desk.put(open_desk);
+    called.give_count(n, count);
+    called.give_number(free)
 }

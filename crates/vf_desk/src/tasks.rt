@@ -2,13 +2,13 @@
 ghost use Rattle.std.specs.Prelude.{◌≡◌, Option};
 ghost use Rattle.rh_defs.specs.Desk.{Desk};
 ghost use Rattle.rh_defs.specs.declared.command.Command.TheVariants as Command;
-ghost use Rattle.vf_desk.specs.Called.{DoesCalled, called, in_form, number_or};
+ghost use Rattle.vf_desk.specs.CallOutcome.{DoesCalled, called, in_form, number_or};
 ghost use Rattle.vf_desk.specs.Event.{event_or, next_ref_in};
 ghost use Rattle.vf_desk.specs.DeskForms.{id_in, manner_at, task_form};
 ghost use Rattle.vf_desk.specs.SeenDesk.{IsSeenDesk};
 
 use crate::desk::VfDesk;
-use crate::event::{VfEvent, told_event};
+use crate::event::{VfEvent, give_event};
 use crate::forms;
 use std::alloc::Global;
 
@@ -27,7 +27,7 @@ pub extern "C" fn vf_desk_task(
         handle.new ≡ number_or (called s (task_form name.now buffer (manner_at manner))) handle.old }
 {
     desk.step(alloc, &forms::task(name, buffer, manner))
-        .told(handle)
+        .give_number(handle)
 }
 
 /// Ends a task: its messages bounce or vanish, and its pages are free. (Wimp_CloseDown.)
@@ -55,7 +55,7 @@ pub extern "C" fn vf_desk_save(
         my_ref.new ≡ number_or (called s (in_form (Command.Save name.now anchor to.now leaf.now))) my_ref.old }
 {
     desk.step(alloc, &forms::save(name, anchor, to, leaf))
-        .told(my_ref)
+        .give_number(my_ref)
 }
 
 /// Takes the task's next message, does what it asks for, and tells both. (Wimp_Poll.)
@@ -71,7 +71,7 @@ pub extern "C" fn vf_desk_poll(
         event.new ≡ event_or (next_ref_in s) (called s (in_form (Command.Poll name.now))) event.old }
 {
     let (called, ack) = desk.step_sending(alloc, &forms::poll(name));
-    told_event(&called, ack, event)
+    give_event(&called, ack, event)
 }
 
 /// Gives up the transfer with the id that comes in; with the id 0 the first one that can be given up.
@@ -102,5 +102,5 @@ pub extern "C" fn vf_desk_repeat(
     ensures my_ref { (s : Option Desk) → IsSeenDesk desk.old s →
         my_ref.new ≡ number_or (called s (in_form (Command.Repeat name.now))) my_ref.old }
 {
-    desk.step(alloc, &forms::repeat(name)).told(my_ref)
+    desk.step(alloc, &forms::repeat(name)).give_number(my_ref)
 }

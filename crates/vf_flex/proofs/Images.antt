@@ -2,8 +2,8 @@
 use Rattle.std.proofs.Common.{◌≡◌, ◌≢◌, ℕ, List, length, arith}
 use Rattle.std.proofs.lemmas.Bool.Decides.{nat_tests}
 use Rattle.rh_defs.specs.declared.heap.HeapFault.TheVariants as heap
-use Rattle.rh_flex.specs.LentSlotChecks.{pages_fault_of}
-use Rattle.rh_flex.specs.declared.slot.LentSlot.{LentSlot}
+use Rattle.rh_lent_slot.specs.LentSlotChecks.{pages_fault_of}
+use Rattle.rh_lent_slot.specs.declared.slot.LentSlot.{LentSlot}
 use Rattle.rh_slot.specs.declared.image.SlotFault.{SlotFault}
 use Rattle.rh_slot.specs.declared.image.SlotFault.TheVariants as fault
 use Rattle.vf_flex.specs.SlotStatus.{fault_status, found_status, image_status, slot_status}

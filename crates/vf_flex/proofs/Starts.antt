@@ -5,7 +5,7 @@ use Rattle.std.proofs.lemmas.Bool.Decides.{nat_tests}
 use Rattle.rh_defs.specs.Chain.{◌>>=◌, refuse_if, outcome_of}
 use Rattle.rh_defs.specs.Slot.{new_slot, slot_begin}
 use Rattle.rh_defs.specs.declared.refusal.Refusal.{Refusal}
-use Rattle.rh_flex.specs.declared.slot.LentSlot.{LentSlot}
+use Rattle.rh_lent_slot.specs.declared.slot.LentSlot.{LentSlot}
 use Rattle.rh_slot.specs.declared.image.TheConstants.{LONGEST_SLOT}
 use Rattle.vf_flex.specs.SlotStatus.{length_status, slot_status}
 

@@ -4,8 +4,8 @@ use Rattle.rh_defs.specs.Chain.{Granted, no_answer, answer_of}
 use Rattle.rh_defs.specs.Heap.{block_size}
 use Rattle.rh_defs.specs.Slot.{Slot, heap_start, slot_start, slot_alloc, slot_free, slot_extend, slot_mid, slot_put, slot_claim, slot_release, slot_resize}
 use Rattle.rh_defs.specs.declared.refusal.Refusal.TheVariants.{NotABlock}
-use Rattle.rh_flex.specs.Slots.{IsSlotBytes, LeavesSlot, free_in, lent_slot_in}
-use Rattle.rh_flex.specs.declared.slot.LentSlot.{LentSlot}
+use Rattle.rh_lent_slot.specs.Slots.{IsSlotBytes, LeavesSlot, free_in, lent_slot_in}
+use Rattle.rh_lent_slot.specs.declared.slot.LentSlot.{LentSlot}
 use Rattle.vf_flex.specs.SlotStatus.{slot_status}
 
 -- where the slot's pages lie in the bytes, they spell a slot

@@ -7,8 +7,8 @@ use Rattle.rh_defs.specs.declared.heap.HeapFault.TheVariants as heap
 use Rattle.rh_defs.specs.declared.refusal.Refusal.{Refusal}
 use Rattle.rh_defs.specs.declared.refusal.Refusal.TheVariants.{NoBlock, AnchorInUse, NotABlock, BadRange, BadSize, NoBudge, NoRoom}
 use Rattle.rh_defs.specs.declared.sizes.TheConstants.{PAGE}
-use Rattle.rh_flex.specs.LentSlotChecks.{pages_fault_of}
-use Rattle.rh_flex.specs.declared.slot.LentSlot.{LentSlot}
+use Rattle.rh_lent_slot.specs.LentSlotChecks.{pages_fault_of}
+use Rattle.rh_lent_slot.specs.declared.slot.LentSlot.{LentSlot}
 use Rattle.rh_slot.specs.declared.image.SlotFault.{SlotFault}
 use Rattle.rh_slot.specs.declared.image.SlotFault.TheVariants as fault
 use Rattle.rh_slot.specs.declared.image.TheConstants.{LONGEST_SLOT}

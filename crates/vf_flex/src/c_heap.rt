@@ -2,16 +2,16 @@
 ghost use Rattle.std.specs.Prelude.{◌≡◌, ◌≢◌, length};
 ghost use Rattle.rh_defs.specs.Chain.{answer_of};
 ghost use Rattle.rh_defs.specs.Heap.{free_bytes, largest};
-ghost use Rattle.rh_flex.specs.Slots.{lent_slot_in};
+ghost use Rattle.rh_lent_slot.specs.Slots.{lent_slot_in};
 ghost use Rattle.vf_flex.specs.LentSlotCalls.{AreLeft, LeavesLentSlot, RefusesInput};
 ghost use Rattle.vf_flex.specs.LentSlotCalls.{claim_granted, release_granted, resize_granted, size_at};
 ghost use Rattle.vf_flex.specs.SlotStatus.{answer_or, answer_status, place_or, place_status, slot_status, status_of};
 
 use crate::amount::{nearest, nearest_amount};
 use crate::input::{place_status, slot_status};
-use crate::status::{OK, outcome_status, told, told_place};
+use crate::status::{OK, give_number, give_place, outcome_status};
 use rh_defs::sizes::SLOT_START;
-use rh_flex::LentSlot;
+use rh_lent_slot::LentSlot;
 
 /// Claims a block of `n` bytes at least, all 0, and tells the place of its first byte. (OS_Heap 2.)
 #[unsafe(no_mangle)]
@@ -33,7 +33,7 @@ pub extern "C" fn vf_flex_claim(
         LeavesLentSlot memory.old memory.new slot.old slot.new (claim_granted memory.old slot.old n) }
 {
     match slot_status(memory.len(), *slot) {
-        OK => told_place(slot.claim(memory, nearest(n)), place),
+        OK => give_place(slot.claim(memory, nearest(n)), place),
         status => status,
     }
 }
@@ -76,7 +76,7 @@ pub extern "C" fn vf_flex_resize(
         LeavesLentSlot memory.old memory.new slot.old slot.new (resize_granted memory.old slot.old place delta) }
 {
     match place_status(memory.len(), *slot, place) {
-        OK => told_place(
+        OK => give_place(
             slot.resize(memory, SLOT_START + place, nearest_amount(delta)),
             moved_to,
         ),
@@ -102,7 +102,7 @@ pub extern "C" fn vf_flex_block_size(
         size.new ≡ answer_or (size_at place (lent_slot_in memory.now slot.now)) size.old }
 {
     match place_status(memory.len(), *slot, place) {
-        OK => told(slot.block_size(memory, SLOT_START + place), size),
+        OK => give_number(slot.block_size(memory, SLOT_START + place), size),
         status => status,
     }
 }

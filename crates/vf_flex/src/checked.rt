@@ -3,7 +3,7 @@ ghost use Rattle.std.specs.Prelude.{◌≡◌, ◌≢◌, length};
 ghost use Rattle.rh_defs.specs.Chain.{answer_of, outcome_of, result_or};
 ghost use Rattle.rh_defs.specs.Heap.{free_bytes, largest};
 ghost use Rattle.rh_defs.specs.Slot.{slot_address, slot_read, slot_size};
-ghost use Rattle.rh_flex.specs.Slots.{IsSlotBytes, lent_slot_in};
+ghost use Rattle.rh_lent_slot.specs.Slots.{IsSlotBytes, lent_slot_in};
 ghost use Rattle.vf_flex.specs.LentSlotCalls.{LeavesLentSlot, RefusesInput, size_at};
 ghost use Rattle.vf_flex.specs.LentSlotCalls.{alloc_granted, extend_granted, free_granted, mid_granted, put_granted};
 ghost use Rattle.vf_flex.specs.LentSlotCalls.{claim_granted, release_granted, resize_granted};
@@ -13,7 +13,7 @@ ghost use Rattle.vf_flex.specs.SlotStatus.{checked_anchor_status, checked_place_
 use crate::image::{checked_anchor_status, checked_place_status, image_status};
 use crate::status::OK;
 use crate::{c_heap, flex};
-use rh_flex::LentSlot;
+use rh_lent_slot::LentSlot;
 
 /// 0 where the pages of the slot lie in the bytes and spell one, and else what is wrong first.
 #[unsafe(no_mangle)]

@@ -2,16 +2,16 @@
 ghost use Rattle.std.specs.Prelude.{◌≡◌, ◌≢◌, length};
 ghost use Rattle.rh_defs.specs.Chain.{answer_of, outcome_of, result_or};
 ghost use Rattle.rh_defs.specs.Slot.{slot_address, slot_read, slot_size};
-ghost use Rattle.rh_flex.specs.Slots.{lent_slot_in};
+ghost use Rattle.rh_lent_slot.specs.Slots.{lent_slot_in};
 ghost use Rattle.vf_flex.specs.LentSlotCalls.{AreLeft, LeavesLentSlot, RefusesInput};
 ghost use Rattle.vf_flex.specs.LentSlotCalls.{alloc_granted, extend_granted, free_granted, mid_granted, put_granted};
 ghost use Rattle.vf_flex.specs.SlotStatus.{anchor_status, answer_or, answer_status, place_or, status_of};
 
 use crate::amount::{nearest, nearest_amount};
 use crate::input::anchor_status;
-use crate::status::{OK, outcome_status, told, told_place};
+use crate::status::{OK, give_number, give_place, outcome_status};
 use rh_defs::Anchor;
-use rh_flex::LentSlot;
+use rh_lent_slot::LentSlot;
 
 /// Puts a block of `n` zeros on top, and tells the place of its first byte. (flex_alloc.)
 #[unsafe(no_mangle)]
@@ -34,7 +34,7 @@ pub extern "C" fn vf_flex_alloc(
         LeavesLentSlot memory.old memory.new slot.old slot.new (alloc_granted memory.old slot.old anchor n) }
 {
     match anchor_status(memory.len(), *slot, anchor) {
-        OK => told_place(slot.alloc(memory, Anchor(anchor as u8), nearest(n)), place),
+        OK => give_place(slot.alloc(memory, Anchor(anchor as u8), nearest(n)), place),
         status => status,
     }
 }
@@ -52,7 +52,7 @@ pub extern "C" fn vf_flex_size(memory: &[u8], slot: &LentSlot, anchor: u32, size
         size.new ≡ answer_or (slot_size anchor (lent_slot_in memory.now slot.now)) size.old }
 {
     match anchor_status(memory.len(), *slot, anchor) {
-        OK => told(slot.size(memory, Anchor(anchor as u8)), size),
+        OK => give_number(slot.size(memory, Anchor(anchor as u8)), size),
         status => status,
     }
 }
@@ -137,7 +137,7 @@ pub extern "C" fn vf_flex_place(
         place.new ≡ place_or (slot_address anchor (lent_slot_in memory.now slot.now)) place.old }
 {
     match anchor_status(memory.len(), *slot, anchor) {
-        OK => told_place(slot.address(memory, Anchor(anchor as u8)), place),
+        OK => give_place(slot.address(memory, Anchor(anchor as u8)), place),
         status => status,
     }
 }

@@ -1,12 +1,12 @@
 //! Whether bytes from anywhere begin with the pages of a slot.
 ghost use Rattle.std.specs.Prelude.{◌≡◌, length};
-ghost use Rattle.rh_flex.specs.Slots.{IsSlotBytes};
+ghost use Rattle.rh_lent_slot.specs.Slots.{IsSlotBytes};
 ghost use Rattle.vf_flex.specs.SlotStatus.{anchor_status, checked_anchor_status, checked_place_status, image_status};
 ghost use Rattle.vf_flex.specs.SlotStatus.{place_status, slot_status};
 
 use crate::input::{anchor_status, place_status, slot_status};
 use crate::status::{OK, fault_status};
-use rh_flex::LentSlot;
+use rh_lent_slot::LentSlot;
 
 /// Whether the pages of a slot that was started lie in the bytes and spell one, and else what is wrong first.
 pub fn image_status(memory: &[u8], slot: LentSlot) -> u32

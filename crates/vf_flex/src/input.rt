@@ -6,7 +6,7 @@ ghost use Rattle.vf_flex.specs.SlotStatus.{anchor_status, length_status, place_s
 
 use crate::status::{BAD_ANCHOR, BAD_LENGTH, NO_SLOT, NOT_A_BLOCK, OK, SHORT};
 use rh_defs::sizes::{ANCHORS, PAGE};
-use rh_flex::LentSlot;
+use rh_lent_slot::LentSlot;
 use rh_slot::LONGEST_SLOT;
 
 /// Whether so many bytes may have a slot.

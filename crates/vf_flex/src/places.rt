@@ -1,16 +1,16 @@
 //! Where all blocks of a slot begin.
 ghost use Rattle.std.specs.Prelude.{◌≡◌, ◌≢◌, length};
-ghost use Rattle.rh_flex.specs.Slots.{IsSlotBytes, lent_slot_in};
+ghost use Rattle.rh_lent_slot.specs.Slots.{IsSlotBytes, lent_slot_in};
 ghost use Rattle.vf_flex.specs.LentSlotCalls.{AreLeft};
 ghost use Rattle.vf_flex.specs.SlotPlaces.{place_of, places_from};
 ghost use Rattle.vf_flex.specs.SlotStatus.{image_status, slot_status};
 
 use crate::image::image_status;
 use crate::input::slot_status;
-use crate::status::{OK, told_place};
+use crate::status::{OK, give_place};
 use rh_defs::Anchor;
 use rh_defs::sizes::ANCHORS;
-use rh_flex::LentSlot;
+use rh_lent_slot::LentSlot;
 
 /// Tells for each anchor from 0 on, as many as `places` has room for, the place of the first byte of its block: its
 /// address less &8000, or 0 where it has no block. Ask behind a call that may have moved blocks.
@@ -63,7 +63,7 @@ fn place_of(memory: &[u8], slot: LentSlot, anchor: usize) -> usize
 {
     let mut place = 0;
     if anchor < ANCHORS {
-        told_place(slot.address(memory, Anchor(anchor as u8)), &mut place);
+        give_place(slot.address(memory, Anchor(anchor as u8)), &mut place);
     }
     place
 }

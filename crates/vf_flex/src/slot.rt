@@ -1,12 +1,12 @@
 //! How a slot begins, and whether its blocks give way.
 ghost use Rattle.std.specs.Prelude.{◌≡◌, ◌≢◌, List, ℕ, length};
 ghost use Rattle.rh_defs.specs.Slot.{new_slot, slot_set_budge};
-ghost use Rattle.rh_flex.specs.Slots.{IsSlotBytes, lent_slot_in};
+ghost use Rattle.rh_lent_slot.specs.Slots.{IsSlotBytes, lent_slot_in};
 ghost use Rattle.vf_flex.specs.SlotStatus.{length_status};
 
 use crate::input::length_status;
 use crate::status::{OK, refusal_status};
-use rh_flex::LentSlot;
+use rh_lent_slot::LentSlot;
 
 /// Makes the first page a slot with no block, budging on. (flex_init.)
 #[unsafe(no_mangle)]

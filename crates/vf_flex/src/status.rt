@@ -115,7 +115,7 @@ pub fn outcome_status(outcome: Result<(), Refusal>) -> u32
 }
 
 /// The status of an answer. Its number is told, if it has one.
-pub fn told(answer: Result<usize, Refusal>, number: &mut usize) -> u32
+pub fn give_number(answer: Result<usize, Refusal>, number: &mut usize) -> u32
     ensures status { result ≡ answer_status answer }
     ensures number { number.new ≡ answer_or answer number.old }
 {
@@ -129,7 +129,7 @@ pub fn told(answer: Result<usize, Refusal>, number: &mut usize) -> u32
 }
 
 /// The status of an answer. Its address is told as a place, if it has one.
-pub fn told_place(answer: Result<usize, Refusal>, place: &mut usize) -> u32
+pub fn give_place(answer: Result<usize, Refusal>, place: &mut usize) -> u32
     ensures status { result ≡ answer_status answer }
     ensures place { place.new ≡ place_or answer place.old }
 {

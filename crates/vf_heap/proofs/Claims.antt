@@ -11,7 +11,7 @@ use Rattle.rh_defs.specs.Pieces.{total, first_at, behind}
 use Rattle.rh_defs.specs.declared.heap.HeapRefusal.{HeapRefusal}
 use Rattle.rh_defs.specs.declared.heap.HeapRefusal.TheVariants.{NoRoom}
 use Rattle.rh_heap.proofs.ClaimLaws.{claim_refused, top_shortage}
-use Rattle.rh_lent.specs.Heaps.{IsHeapBytes, LeavesBytes}
+use Rattle.rh_lent_heap.specs.Heaps.{IsHeapBytes, LeavesBytes}
 use Rattle.vf_heap.specs.LentHeapCalls.{LeavesLentHeap}
 
 -- no hole has more bytes than all segments together

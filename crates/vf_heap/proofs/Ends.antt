@@ -7,7 +7,7 @@ use Rattle.rh_defs.specs.Heap.{Heap, extend_by}
 use Rattle.rh_defs.specs.HeapImage.{heap_of}
 use Rattle.rh_defs.specs.Pieces.{moved}
 use Rattle.rh_defs.specs.declared.heap.HeapRefusal.{HeapRefusal}
-use Rattle.rh_lent.specs.Heaps.{LeavesBytes}
+use Rattle.rh_lent_heap.specs.Heaps.{LeavesBytes}
 use Rattle.rh_store.specs.Limits.{area_limit}
 use Rattle.vf_heap.specs.HeapStatus.{answer_status, bad_length, extend_status, short}
 

@@ -14,7 +14,7 @@ use Rattle.rh_defs.specs.declared.heap.HeapRefusal.TheVariants.{NotABlock, BadSi
 use Rattle.rh_defs.proofs.Cuts.{IsCut, first_at-cuts, cut-total}
 use Rattle.rh_defs.proofs.HeapLists.{cond_true, cond_false, eqb_same, eqb_apart}
 use Rattle.rh_heap.proofs.WayLaws.{WayFacts, if_stays, if_shrinks, if_into, if_top, if_to_hole, if_to_top, way_facts}
-use Rattle.rh_lent.specs.Heaps.{IsHeapBytes}
+use Rattle.rh_lent_heap.specs.Heaps.{IsHeapBytes}
 use Rattle.vf_heap.specs.LentHeapCalls.{IsFar}
 use Rattle.vf_heap.specs.HeapStatus.{extend_status, refusal_status, short}
 use Rattle.vf_heap.proofs.Claims.{no_hole}

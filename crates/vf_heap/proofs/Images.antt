@@ -7,7 +7,7 @@ use Rattle.rh_defs.specs.HeapImage.{Spells, IsImage, heap_of, fault_of, special_
 use Rattle.rh_defs.proofs.BytesLaws.{SameIn-take}
 use Rattle.rh_defs.proofs.HeapLaws.{heap_of-Spells}
 use Rattle.rh_defs.proofs.ModuleLaws.{Spells-kept}
-use Rattle.rh_lent.specs.Heaps.{IsHeapBytes}
+use Rattle.rh_lent_heap.specs.Heaps.{IsHeapBytes}
 use Rattle.rh_store.specs.Limits.{area_limit}
 use Rattle.vf_heap.specs.HeapStatus.{found_status, image_status}
 

@@ -5,7 +5,7 @@ use Rattle.rh_defs.specs.Heap.{Heap, extend_by, block_size}
 use Rattle.rh_defs.specs.HeapImage.{heap_of}
 use Rattle.rh_defs.specs.declared.heap.HeapRefusal.{HeapRefusal}
 use Rattle.rh_defs.specs.declared.heap.HeapRefusal.TheVariants.{NotABlock}
-use Rattle.rh_lent.specs.Heaps.{IsHeapBytes, LeavesBytes}
+use Rattle.rh_lent_heap.specs.Heaps.{IsHeapBytes, LeavesBytes}
 use Rattle.rh_store.specs.Limits.{area_limit}
 use Rattle.vf_heap.specs.HeapStatus.{image_status}
 

@@ -3,7 +3,7 @@ ghost use Rattle.std.specs.Prelude.{◌≡◌, ◌≢◌, length};
 ghost use Rattle.rh_defs.specs.Chain.{no_answer};
 ghost use Rattle.rh_defs.specs.Heap.{claim_block, released_at, resize_block, largest, free_bytes};
 ghost use Rattle.rh_defs.specs.HeapImage.{heap_of};
-ghost use Rattle.rh_lent.specs.Heaps.{IsHeapBytes};
+ghost use Rattle.rh_lent_heap.specs.Heaps.{IsHeapBytes};
 ghost use Rattle.vf_heap.specs.HeapStatus.{answer_or, answer_status, extend_status, image_status, number_or, status_of};
 ghost use Rattle.vf_heap.specs.LentHeapCalls.{LeavesLentHeap, Extends, RefusesImage, size_at};
 

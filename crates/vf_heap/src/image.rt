@@ -1,6 +1,6 @@
 //! Whether bytes from anywhere begin with a heap.
 ghost use Rattle.std.specs.Prelude.{◌≡◌, length};
-ghost use Rattle.rh_lent.specs.Heaps.{IsHeapBytes};
+ghost use Rattle.rh_lent_heap.specs.Heaps.{IsHeapBytes};
 ghost use Rattle.vf_heap.specs.HeapStatus.{image_status, length_status};
 
 use crate::status::{BAD_DESCRIPTOR, BAD_LENGTH, OK, SHORT, fault_status};

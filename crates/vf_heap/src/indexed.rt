@@ -6,14 +6,14 @@ ghost use Rattle.rh_defs.specs.Heap.{claim_block, released_at, resize_block, nee
 ghost use Rattle.rh_defs.specs.HeapImage.{heap_of};
 ghost use Rattle.rh_store.specs.Starts.{IsIndex};
 ghost use Rattle.rh_store.specs.declared.starts.TheConstants.{LINE_BYTES};
-ghost use Rattle.rh_lent.specs.Heaps.{IsHeapBytes};
+ghost use Rattle.rh_lent_heap.specs.Heaps.{IsHeapBytes};
 ghost use Rattle.vf_heap.specs.HeapStatus.{answer_or, answer_status, map_status, map_words, number_or, status_of};
 ghost use Rattle.vf_heap.specs.LentHeapCalls.{LeavesLentHeap, IsFar, size_at};
 
 use crate::plain::far_refusal;
-use crate::status::{NO_ROOM, OK, SHORT, outcome_status, refusal_status, told};
+use crate::status::{NO_ROOM, OK, SHORT, give_number, outcome_status, refusal_status};
 use rh_heap::LINE_BYTES;
-use rh_lent::{heap, indexed};
+use rh_lent_heap::{heap, indexed};
 
 /// The words that a map has for a heap of so many bytes: two for each `LINE_BYTES`, and for those that are left.
 #[unsafe(no_mangle)]
@@ -57,7 +57,7 @@ pub extern "C" fn vf_heap_indexed_claim(
     ensures refused { result ≢ 0 → map.new ≡ map.old }
 {
     match u32::try_from(n) {
-        Ok(n) => told(indexed::claim(memory, map, n), address),
+        Ok(n) => give_number(indexed::claim(memory, map, n), address),
         Err(_) => NO_ROOM,
     }
 }
@@ -93,7 +93,7 @@ pub extern "C" fn vf_heap_indexed_resize(
     ensures refused { result ≢ 0 → map.new ≡ map.old }
 {
     match i32::try_from(delta) {
-        Ok(delta) => told(indexed::resize(memory, map, address, delta), moved_to),
+        Ok(delta) => give_number(indexed::resize(memory, map, address, delta), moved_to),
         Err(_) => refusal_status(far_refusal(memory, address, delta)),
     }
 }
@@ -111,7 +111,7 @@ pub extern "C" fn vf_heap_indexed_block_size(
     ensures status { result ≡ answer_status (size_at address (heap_of memory.now 0)) }
     ensures size { size.new ≡ answer_or (size_at address (heap_of memory.now 0)) size.old }
 {
-    told(indexed::block_size(memory, map, address), size)
+    give_number(indexed::block_size(memory, map, address), size)
 }
 
 /// Tells by how many bytes the heap is too short for a resize, 0 where it has room. An amount that 32 bits with a sign
@@ -132,7 +132,7 @@ pub extern "C" fn vf_heap_indexed_resize_need(
     ensures kept { IsFar delta → need.new ≡ need.old }
 {
     match i32::try_from(delta) {
-        Ok(delta) => told(indexed::resize_need(memory, map, address, delta), need),
+        Ok(delta) => give_number(indexed::resize_need(memory, map, address, delta), need),
         Err(_) => refusal_status(far_refusal(memory, address, delta)),
     }
 }

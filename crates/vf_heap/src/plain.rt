@@ -3,18 +3,18 @@ ghost use Rattle.std.specs.Prelude.{◌≡◌, ◌≢◌, length, Err};
 ghost use Rattle.rh_defs.specs.Chain.{no_answer};
 ghost use Rattle.rh_defs.specs.Heap.{claim_block, released_at, resize_block, largest, free_bytes, empty_heap};
 ghost use Rattle.rh_defs.specs.HeapImage.{heap_of};
-ghost use Rattle.rh_lent.specs.Heaps.{IsHeapBytes};
+ghost use Rattle.rh_lent_heap.specs.Heaps.{IsHeapBytes};
 ghost use Rattle.vf_heap.specs.HeapStatus.{answer_or, answer_status, extend_status, length_status, number_or};
 ghost use Rattle.vf_heap.specs.HeapStatus.{status_of};
 ghost use Rattle.vf_heap.specs.LentHeapCalls.{LeavesLentHeap, Extends, IsFar, IsLentHeap, size_at};
 
 use crate::image::{LONGEST, length_status};
 use crate::status::{
-    BAD_LENGTH, EXCESSIVE_SHRINK, NO_ROOM, OK, SHORT, outcome_status, refusal_status, told,
+    BAD_LENGTH, EXCESSIVE_SHRINK, NO_ROOM, OK, SHORT, give_number, outcome_status, refusal_status,
 };
 use rh_defs::HeapRefusal;
 use rh_defs::sizes::{HEAP_UNIT, moved};
-use rh_lent::heap;
+use rh_lent_heap::heap;
 
 /// Makes all of the bytes an empty heap. (OS_Heap 0.)
 #[unsafe(no_mangle)]
@@ -54,7 +54,7 @@ pub extern "C" fn vf_heap_claim(memory: &mut [u8], n: usize, address: &mut usize
     ensures left { LeavesLentHeap memory.old memory.new (claim_block n (heap_of memory.old 0)) }
 {
     match u32::try_from(n) {
-        Ok(n) => told(heap::claim(memory, n), address),
+        Ok(n) => give_number(heap::claim(memory, n), address),
         Err(_) => NO_ROOM,
     }
 }
@@ -96,7 +96,7 @@ pub extern "C" fn vf_heap_resize(
     ensures left { LeavesLentHeap memory.old memory.new (resize_block address delta (heap_of memory.old 0)) }
 {
     match i32::try_from(delta) {
-        Ok(delta) => told(heap::resize(memory, address, delta), moved_to),
+        Ok(delta) => give_number(heap::resize(memory, address, delta), moved_to),
         Err(_) => refusal_status(far_refusal(memory, address, delta)),
     }
 }
@@ -145,5 +145,5 @@ pub extern "C" fn vf_heap_block_size(memory: &[u8], address: usize, size: &mut u
     ensures status { result ≡ answer_status (size_at address (heap_of memory.now 0)) }
     ensures size { size.new ≡ answer_or (size_at address (heap_of memory.now 0)) size.old }
 {
-    told(heap::block_size(memory, address), size)
+    give_number(heap::block_size(memory, address), size)
 }

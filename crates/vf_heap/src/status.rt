@@ -68,7 +68,7 @@ pub fn outcome_status(outcome: Result<(), HeapRefusal>) -> u32
 }
 
 /// The status of an answer. Its number is told, if it has one.
-pub fn told(answer: Result<usize, HeapRefusal>, number: &mut usize) -> u32
+pub fn give_number(answer: Result<usize, HeapRefusal>, number: &mut usize) -> u32
     ensures status { result ≡ answer_status answer }
     ensures number { number.new ≡ answer_or answer number.old }
 {

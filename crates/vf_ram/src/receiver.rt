@@ -100,7 +100,7 @@ fn fetching(
     let claim = action.claim()?;
     let anchor = read_anchor(anchor)?;
     let ended = known.fetching(&claim, anchor, buffer, Ref(fetch));
-    told(known, ended)
+    known_after(known, ended)
 }
 
 /// Tells what a RAMTransmit of n bytes asks for, where buffers have so much room. (Message_RAMTransmit.)
@@ -155,7 +155,7 @@ fn fetched(receiver: &VfReceiver, action: &VfTakeAction, fetch: u32) -> Result<R
     let mut known = receiver.read()?;
     let Append { transfer, n, next } = action.append()?;
     let ended = tell_fetched(&mut known, Append { transfer, n, next }, Ref(fetch));
-    told(known, ended)
+    known_after(known, ended)
 }
 
 fn tell_fetched(known: &mut Receiver, action: Append, fetch: Ref) -> Result<(), Refusal>
@@ -181,7 +181,7 @@ fn finished(receiver: &VfReceiver, action: &VfTakeAction) -> Result<Receiver, u3
     let mut known = receiver.read()?;
     let Append { transfer, n, next } = action.append()?;
     let ended = tell_finished(&mut known, Append { transfer, n, next });
-    told(known, ended)
+    known_after(known, ended)
 }
 
 fn tell_finished(known: &mut Receiver, action: Append) -> Result<(), Refusal>
@@ -214,7 +214,7 @@ fn failed(receiver: &VfReceiver, action: &VfTakeAction, kept: u32) -> Result<Rec
     match action.read() {
         Ok(action) => {
             let ended = tell_failed(&mut known, action, kept);
-            told(known, ended)
+            known_after(known, ended)
         }
         Err(status) => Err(status),
     }
@@ -263,7 +263,7 @@ fn asking(receiver: &VfReceiver, action: &VfTakeAction, ack: u32) -> Result<Rece
     let mut known = receiver.read()?;
     let f = action.ask()?;
     let ended = known.asking(&f, Ref(ack));
-    told(known, ended)
+    known_after(known, ended)
 }
 
 /// The DataSaveAck with the ref came back: its transfer failed. Tells whether there is one. (User_Message_Acknowledge.)
@@ -329,7 +329,7 @@ fn loaded(receiver: &VfReceiver, action: &VfTakeAction, size: u32) -> Result<Rec
     let mut known = receiver.read()?;
     let action = action.load_file()?;
     let ended = known.loaded(&action, size);
-    told(known, ended)
+    known_after(known, ended)
 }
 
 /// Gives a transfer up that fetches or waits for a file: the one with the id, with 0 for it the first.
@@ -347,7 +347,7 @@ fn cancelled(receiver: &VfReceiver, id: u32) -> Result<Receiver, u32>
 {
     let mut known = receiver.read()?;
     let ended = known.cancel(wanted(id));
-    told(known, ended)
+    known_after(known, ended)
 }
 
 /// Tells whether the anchor's block is a document that grows.
@@ -404,7 +404,7 @@ fn show(asked: Option<TakeAction>, action: &mut VfTakeAction) -> u32
 }
 
 /// A receiver behind a call of rh_ram that was done or refused.
-fn told(known: Receiver, ended: Result<(), Refusal>) -> Result<Receiver, u32>
+fn known_after(known: Receiver, ended: Result<(), Refusal>) -> Result<Receiver, u32>
     ensures { (granted : Granted (List Incoming)) (old : List Incoming) → ended ≡ outcome_of granted → known
         ≡ result_or old granted
         → result ≡ by_rules_of granted }

@@ -43,7 +43,7 @@ fn offered(sender: &VfSender, id: u32, recipient: u32, anchor: u32) -> Result<Se
     let mut known = sender.read()?;
     let anchor = read_anchor(anchor)?;
     let ended = known.offer(Ref(id), Handle(recipient), anchor);
-    told(known, ended)
+    known_after(known, ended)
 }
 
 /// Tells what a RAMFetch asks for. (Message_RAMFetch.)
@@ -161,7 +161,7 @@ fn sent(sender: &VfSender, action: &VfSendAction, size: u32, last: u32) -> Resul
     let mut known = sender.read()?;
     let action = action.transmit()?;
     let ended = known.sent(&action, size, Ref(last));
-    told(known, ended)
+    known_after(known, ended)
 }
 
 /// The source became a file, and the DataLoad with the ref says so. (Message_DataLoad.)
@@ -180,7 +180,7 @@ fn saved(sender: &VfSender, action: &VfSendAction, last: u32) -> Result<Sender, 
     let mut known = sender.read()?;
     let action = action.save_file()?;
     let ended = known.saved(&action, Ref(last));
-    told(known, ended)
+    known_after(known, ended)
 }
 
 /// All bytes of the source were loaded, which are so many.
@@ -199,7 +199,7 @@ fn loaded(sender: &VfSender, action: &VfSendAction, size: u32) -> Result<Sender,
     let mut known = sender.read()?;
     let x = action.finish()?;
     let ended = known.loaded(&x, size);
-    told(known, ended)
+    known_after(known, ended)
 }
 
 /// The action was refused: its transfer failed.
@@ -218,7 +218,7 @@ fn failed(sender: &VfSender, action: &VfSendAction) -> Result<Sender, u32>
     let mut known = sender.read()?;
     let action = action.read()?;
     let ended = known.failed(&action);
-    told(known, ended)
+    known_after(known, ended)
 }
 
 /// The message with the ref came back: the transfer whose last one it was failed. Tells whether there is one.
@@ -254,7 +254,7 @@ fn cancelled(sender: &VfSender, id: u32) -> Result<Sender, u32>
 {
     let mut known = sender.read()?;
     let ended = known.cancel(wanted(id));
-    told(known, ended)
+    known_after(known, ended)
 }
 
 /// Tells whether the anchor's block is the source of an open transfer.
@@ -280,7 +280,7 @@ fn source(sender: &VfSender, anchor: u32) -> Result<bool, u32>
 }
 
 /// A sender behind a call of rh_ram that was done or refused.
-fn told(known: Sender, ended: Result<(), Refusal>) -> Result<Sender, u32>
+fn known_after(known: Sender, ended: Result<(), Refusal>) -> Result<Sender, u32>
     ensures { (granted : Granted (List Outgoing)) (old : List Outgoing) → ended ≡ outcome_of granted → known
         ≡ result_or old granted
         → result ≡ by_rules_of granted }

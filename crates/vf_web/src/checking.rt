@@ -7,7 +7,7 @@ ghost use Rattle.rh_run.specs.Checked.{image_line};
 ghost use Rattle.rh_run.specs.CheckedSlot.{slot_image_line};
 ghost use Rattle.vf_web.specs.PageCalls.{ToldText};
 
-use crate::running::told;
+use crate::running::give_length;
 use rh_lines::WholeText;
 use rh_run::{check_image, check_slot_image};
 
@@ -18,7 +18,7 @@ pub fn heap(image: &[u8], text: &mut [u8], needed: &mut usize) -> u32
     let room = text.len();
     let mut writer = WholeText::new(text);
     let status = check_image(image, &mut writer).unwrap();
-    told(status, writer.length(), room, needed)
+    give_length(status, writer.length(), room, needed)
 }
 
 /// What a slot of these bytes consists of, or what is wrong first.
@@ -29,5 +29,5 @@ pub fn slot(image: &[u8], text: &mut [u8], needed: &mut usize) -> u32
     let room = text.len();
     let mut writer = WholeText::new(text);
     let status = check_slot_image(image, &mut writer).unwrap();
-    told(status, writer.length(), room, needed)
+    give_length(status, writer.length(), room, needed)
 }

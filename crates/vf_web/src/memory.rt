@@ -7,7 +7,7 @@ ghost use Rattle.rh_pages.specs.Paged.{paged_memory};
 ghost use Rattle.vf_web.specs.Room.{has_room_for};
 
 use rh_defs::sizes::{MAX_PAGES, MIN_PAGES, PAGE};
-use rh_pages::{LISTS, LentGround, PagedStore};
+use rh_pages::{LISTS, LentBacking, PagedStore};
 
 /// Whether there may be so many pages, and so many bytes and page numbers are enough for them.
 pub fn has_room(pages: u32, bytes: usize, numbers: usize) -> bool
@@ -26,7 +26,7 @@ pub fn store_over<'a>(
     pages: u32,
     pool: &'a mut [u8],
     numbers: &'a mut [u16],
-) -> PagedStore<LentGround<'a>>
+) -> PagedStore<LentBacking<'a>>
     requires { IsTrue (has_room_for pages (length pool.now) (length numbers.now)) }
     ensures fresh { paged_memory result ≡ fresh (paged_memory result).pages }
     ensures pages { (paged_memory result).pages ≡ pages }
@@ -34,6 +34,6 @@ pub fn store_over<'a>(
     ensures most { (paged_memory result).pages ≤ MAX_PAGES }
 {
     let pages = pages as usize;
-    let ground = LentGround::new(&mut pool[..PAGE * pages], numbers);
+    let ground = LentBacking::new(&mut pool[..PAGE * pages], numbers);
     PagedStore::over(ground, pages)
 }

@@ -34,7 +34,7 @@ pub fn replies<S: Store + Drop, F: NamedFiles + Drop>(
     let room = text.len();
     let mut writer = WholeText::new(text);
     let status = replies_of(store, files, script, &mut writer).unwrap();
-    told(status, writer.length(), room, needed)
+    give_length(status, writer.length(), room, needed)
 }
 
 /// The map of a script over a fresh desk: each step, or marked steps alone.
@@ -56,7 +56,7 @@ pub fn map<S: Sited + Drop, F: NamedFiles + Drop>(
     let room = text.len();
     let mut writer = WholeText::new(text);
     let status = map_of(store, files, script, &mut writer, marked).unwrap();
-    told(status, writer.length(), room, needed)
+    give_length(status, writer.length(), room, needed)
 }
 
 /// The sheet of a script with a name over a fresh desk: each step, or marked steps alone.
@@ -79,11 +79,11 @@ pub fn sheet<S: Sited + Drop, F: NamedFiles + Drop>(
     let room = text.len();
     let mut writer = WholeText::new(text);
     let status = sheet_of(store, files, script, &mut writer, marked, name).unwrap();
-    told(status, writer.length(), room, needed)
+    give_length(status, writer.length(), room, needed)
 }
 
 /// Tells how long a text is, and says how the call ends that wrote it to so many bytes.
-pub fn told(status: Status, length: usize, room: usize, needed: &mut usize) -> u32
+pub fn give_length(status: Status, length: usize, room: usize, needed: &mut usize) -> u32
     ensures status { result ≡ (if nat_lt room length then SHORT_TEXT else status_number status) }
     ensures needed { needed.new ≡ length }
 {

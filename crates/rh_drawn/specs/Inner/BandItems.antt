@@ -5,8 +5,8 @@ use Rattle.rh_defs.specs.Messages.{Parcel, action_of}
 use Rattle.rh_defs.specs.Heap.{Segment, Heap, place_after}
 use Rattle.rh_defs.specs.declared.message.MessageItem.{MessageItem}
 use Rattle.rh_figure.specs.Phrases.{Text}
-use Rattle.rh_sight.specs.declared.message_list.Place.{Place}
-use Rattle.rh_sight.specs.declared.message_list.Place.TheVariants.{Held, Before, Last}
+use Rattle.rh_scene.specs.declared.message_list.Place.{Place}
+use Rattle.rh_scene.specs.declared.message_list.Place.TheVariants.{Held, Before, Last}
 
 -- a segment begins at the place of a heap that may be there
 pub record HasSegment (h : Option Heap) (place : ℕ) (segment : Segment) : Type 0 where

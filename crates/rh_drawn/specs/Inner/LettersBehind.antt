@@ -5,7 +5,7 @@ use Rattle.rh_figure.specs.Figure.{Letterbox}
 use Rattle.rh_figure.specs.declared.limits.TheConstants.{MOST_LISTED}
 use Rattle.rh_map.specs.MapMessages.{mapped_letterbox}
 use Rattle.rh_map.specs.declared.letterboxes.MessageEntry.{MessageEntry}
-use Rattle.rh_sight.specs.SightMessages.{is_held_by, waits_for}
+use Rattle.rh_scene.specs.SightMessages.{is_held_by, waits_for}
 use Rattle.rh_defs.specs.declared.message.MessageItem.{MessageItem}
 use Rattle.rh_drawn.specs.DrawnLetters.{has_letters_in}
 

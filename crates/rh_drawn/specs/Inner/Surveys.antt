@@ -9,9 +9,9 @@ use Rattle.rh_defs.specs.Questions.{segment_items_from}
 use Rattle.rh_figure.specs.Scene.{Scene, message_of_scene}
 use Rattle.rh_figure.specs.Layout.{is_fresh_block, is_new_message}
 use Rattle.rh_figure.specs.declared.limits.TheConstants.{MOST_CARDS}
-use Rattle.rh_sight.specs.declared.sight.HeapOf.{HeapOf}
-use Rattle.rh_sight.specs.declared.sight.HeapOf.TheVariants as heap_of
-use Rattle.rh_sight.specs.Seen.{heap_start_of}
+use Rattle.rh_scene.specs.declared.sight.HeapOf.{HeapOf}
+use Rattle.rh_scene.specs.declared.sight.HeapOf.TheVariants as heap_of
+use Rattle.rh_scene.specs.Seen.{heap_start_of}
 use Rattle.rh_drawn.specs.declared.heap_cards.Band.{Band}
 use Rattle.rh_drawn.specs.declared.heap_cards.Survey.{Survey}
 

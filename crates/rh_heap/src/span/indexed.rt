@@ -25,7 +25,7 @@ use crate::span::Span;
 use crate::span::claim::{append, fill};
 use crate::span::holes::find;
 use crate::span::release::free_segment;
-use crate::span::resize::{Way, raise, short_by, shrink, way_to, widen};
+use crate::span::resize::{ResizeWay, raise, short_by, shrink, way_to, widen};
 use crate::span::segments::Spot;
 use crate::span::starts::{clear, is_set, last_up_to, link_below, put, set};
 use crate::span::words::{follow, move_bytes, read};
@@ -337,28 +337,28 @@ fn change_in<S: WordsMut>(
 {
     let upper = spot.place + spot.size;
     match way_to(store, span, spot, size) {
-        Way::Stays => Ok(spot.place + BLOCK),
-        Way::Shrinks => {
+        ResizeWay::Stays => Ok(spot.place + BLOCK),
+        ResizeWay::Shrinks => {
             shrink(store, span, spot, size);
             let base = read(store, span, HEAP_BASE);
             note_hole(starts, spot.place + size, upper, base);
             Ok(spot.place + BLOCK)
         }
-        Way::IntoHole(room) => {
+        ResizeWay::IntoHole(room) => {
             widen(store, span, spot, size, room);
             let base = read(store, span, HEAP_BASE);
             clear(starts, HOLES, upper / HEAP_UNIT);
             note_hole(starts, spot.place + size, upper + room, base);
             Ok(spot.place + BLOCK)
         }
-        Way::AtTop => {
+        ResizeWay::AtTop => {
             if read(store, span, HEAP_END) < spot.place + size {
                 return Err(HeapRefusal::NoRoom);
             }
             raise(store, span, spot, size);
             Ok(spot.place + BLOCK)
         }
-        Way::Moves => match move_in(store, span, starts, spot, size) {
+        ResizeWay::Moves => match move_in(store, span, starts, spot, size) {
             Some(address) => Ok(address),
             None => Err(HeapRefusal::NoRoom),
         },

@@ -27,7 +27,7 @@ use rh_store::{Words, WordsMut};
 /// How a block gets another size: it stays, its upper bytes become a hole, it grows into the hole of so many bytes
 /// that follows, or at the top, or it moves.
 #[derive(Clone, Copy, Debug, PartialEq, Eq)]
-pub enum Way {
+pub enum ResizeWay {
     Stays,
     Shrinks,
     IntoHole(usize),
@@ -43,28 +43,28 @@ pub fn way_to<S: Words>(store: &S, span: Span, spot: Spot, size: usize) -> Way
     ensures { WayOf size spot (heap_in (S.memory store.now) span) result }
 {
     if size == spot.size {
-        return Way::Stays;
+        return ResizeWay::Stays;
     }
     if size < spot.size {
-        return Way::Shrinks;
+        return ResizeWay::Shrinks;
     }
     let upper = spot.place + spot.size;
     if follow(store, span, spot.from) == upper {
         let room = read(store, span, upper + HOLE_SIZE);
         if size <= spot.size + room {
-            return Way::IntoHole(room);
+            return ResizeWay::IntoHole(room);
         }
-        return Way::Moves;
+        return ResizeWay::Moves;
     }
     if upper != read(store, span, HEAP_BASE) {
-        return Way::Moves;
+        return ResizeWay::Moves;
     }
     if spot.place + size <= read(store, span, HEAP_END) {
-        return Way::AtTop;
+        return ResizeWay::AtTop;
     }
     match find(store, span, size) {
-        Some(_) => Way::Moves,
-        None => Way::AtTop,
+        Some(_) => ResizeWay::Moves,
+        None => ResizeWay::AtTop,
     }
 }
 
@@ -192,23 +192,23 @@ fn change<S: WordsMut>(
     ensures only { OnlySpan (S.memory store.old) (S.memory store.new) span }
 {
     match way_to(store, span, spot, size) {
-        Way::Stays => Ok(spot.place + BLOCK),
-        Way::Shrinks => {
+        ResizeWay::Stays => Ok(spot.place + BLOCK),
+        ResizeWay::Shrinks => {
             shrink(store, span, spot, size);
             Ok(spot.place + BLOCK)
         }
-        Way::IntoHole(room) => {
+        ResizeWay::IntoHole(room) => {
             widen(store, span, spot, size, room);
             Ok(spot.place + BLOCK)
         }
-        Way::AtTop => {
+        ResizeWay::AtTop => {
             if read(store, span, HEAP_END) < spot.place + size {
                 return Err(HeapRefusal::NoRoom);
             }
             raise(store, span, spot, size);
             Ok(spot.place + BLOCK)
         }
-        Way::Moves => match move_block(store, span, spot, size) {
+        ResizeWay::Moves => match move_block(store, span, spot, size) {
             Some(address) => Ok(address),
             None => Err(HeapRefusal::NoRoom),
         },
@@ -224,11 +224,11 @@ pub fn short_by<S: Words>(store: &S, span: Span, spot: Spot, size: usize) -> usi
         (ShortBy (heap_in (S.memory store.now) span) size result) }
 {
     match way_to(store, span, spot, size) {
-        Way::Stays => 0,
-        Way::Shrinks => 0,
-        Way::IntoHole(_) => 0,
-        Way::AtTop => (spot.place + size).saturating_sub(read(store, span, HEAP_END)),
-        Way::Moves => shortage(store, span, size),
+        ResizeWay::Stays => 0,
+        ResizeWay::Shrinks => 0,
+        ResizeWay::IntoHole(_) => 0,
+        ResizeWay::AtTop => (spot.place + size).saturating_sub(read(store, span, HEAP_END)),
+        ResizeWay::Moves => shortage(store, span, size),
     }
 }
 

@@ -2,11 +2,11 @@
 #![tactic(auto, unfolding(rh_defs::specs::Memory::bytes, crate::specs::Paged::paged_memory))]
 
 use super::PagedStore;
-use crate::ground::Ground;
+use crate::backing::Backing;
 use rh_defs::sizes::WORD;
 use rh_store::{AreaId, Words, WordsMut};
 
-impl<G: Ground> PagedStore<G> {
+impl<G: Backing> PagedStore<G> {
     ghost use Rattle.std.specs.Prelude.{◌≡◌, ◌+◌, ◌≤◌, length};
     ghost use Rattle.rh_defs.specs.Bytes.{put_word, word};
     ghost use Rattle.rh_defs.specs.Memory.{IsOpen, bytes, with_bytes};

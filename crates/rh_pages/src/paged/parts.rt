@@ -2,12 +2,12 @@
 #![tactic(auto, unfolding(rh_defs::specs::Memory::bytes, crate::specs::Paged::paged_memory))]
 
 use super::PagedStore;
-use crate::ground::Ground;
+use crate::backing::Backing;
 use crate::table::FREE;
 use rh_defs::sizes::PAGE;
 use rh_store::AreaId;
 
-impl<G: Ground> PagedStore<G> {
+impl<G: Backing> PagedStore<G> {
     ghost use Rattle.std.specs.Prelude.{◌≡◌, ℕ, ◌+◌, ◌*◌, ◌%◌, ◌<◌, ◌≤◌, length, replicate};
     ghost use Rattle.rh_defs.specs.Bytes.{part, with_part};
     ghost use Rattle.rh_defs.specs.Memory.{IsOpen, bytes, with_bytes, grown, shrunk};

@@ -4,7 +4,7 @@
 ghost use Rattle.std.specs.Prelude.{◌≡◌, ℕ, ◌<◌, true, false, get_or, length, unwrap_or, IfSome};
 
 use super::PagedStore;
-use crate::ground::Ground;
+use crate::backing::Backing;
 use crate::table::FREE;
 use rh_defs::sizes::{PAGE, WORD};
 use rh_store::{AreaId, NoLines, Paged, Pages, Sited, Store, StoreFault, Words, WordsMut};
@@ -22,7 +22,7 @@ fn first_closed(opened: &[bool]) -> Option<usize>
     None
 }
 
-impl<G: Ground> Words for PagedStore<G> {
+impl<G: Backing> Words for PagedStore<G> {
     ghost use Rattle.rh_pages.specs.Paged.{paged_memory};
     ghost use Rattle.rh_pages.specs.Inner.PagedLaws.{paged_small_law};
 
@@ -62,7 +62,7 @@ impl<G: Ground> Words for PagedStore<G> {
     ghost small = { paged_small_law };
 }
 
-impl<G: Ground> WordsMut for PagedStore<G> {
+impl<G: Backing> WordsMut for PagedStore<G> {
     type Lines = NoLines;
 
     fn set_word(&mut self, id: AreaId, at: usize, w: u32) {
@@ -106,7 +106,7 @@ impl<G: Ground> WordsMut for PagedStore<G> {
     }
 }
 
-impl<G: Ground> Paged for PagedStore<G> {
+impl<G: Backing> Paged for PagedStore<G> {
     ghost use Rattle.rh_pages.specs.Inner.PagedLaws.{paged_whole_law};
 
     fn rest_of_page(&self, id: AreaId, at: usize) -> &[u8] {
@@ -117,7 +117,7 @@ impl<G: Ground> Paged for PagedStore<G> {
     ghost whole = { paged_whole_law };
 }
 
-impl<G: Ground> Pages for PagedStore<G> {
+impl<G: Backing> Pages for PagedStore<G> {
     ghost use Rattle.rh_pages.specs.Inner.PagedLaws.{paged_ledger_law, paged_within_law, paged_few_law};
 
     fn grow(&mut self, id: AreaId, pages: usize) -> Result<(), StoreFault> {
@@ -151,7 +151,7 @@ impl<G: Ground> Pages for PagedStore<G> {
     ghost few = { paged_few_law };
 }
 
-impl<G: Ground> Store for PagedStore<G> {
+impl<G: Backing> Store for PagedStore<G> {
     ghost use Rattle.rh_pages.specs.Inner.PagedLaws.{paged_numbered_law};
 
     fn open(&mut self) -> Result<AreaId, StoreFault> {
@@ -181,7 +181,7 @@ impl<G: Ground> Store for PagedStore<G> {
     ghost numbered = { paged_numbered_law };
 }
 
-impl<G: Ground> Sited for PagedStore<G> {
+impl<G: Backing> Sited for PagedStore<G> {
     ghost use Rattle.rh_pages.specs.Paged.{pages_of, free_of};
     ghost use Rattle.rh_pages.specs.Inner.PagedLaws.{shared_law};
 

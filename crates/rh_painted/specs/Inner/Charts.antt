@@ -1,11 +1,11 @@
 -- Charts by what is kept of them.
 use Rattle.std.specs.Prelude.{◌≡◌, ◌≤◌, ◌<◌, ℕ, length}
 use Rattle.rh_defs.specs.Desk.{Desk}
-use Rattle.rh_draw.specs.declared.chart.Ends.{Ends}
+use Rattle.rh_elements.specs.declared.chart.Ends.{Ends}
 use Rattle.rh_figure.specs.Phrases.{Text}
 use Rattle.rh_painted.specs.declared.chart.Chart.{Chart}
 use Rattle.rh_painted.specs.declared.numbers.TheConstants.{MOST_IN_SET}
-use Rattle.rh_painted.specs.declared.ways.Way.{Way}
+use Rattle.rh_painted.specs.declared.ways.MessageArrow.{MessageArrow}
 use Rattle.rh_painted.specs.Ways.{arrows_seen}
 use Rattle.rh_sheet.specs.Chart.{Arrow, arrow_path, arrow_words, beat_text, chart_body, life_of, step_y, steps_in, task_x, tasks_in}
 
@@ -21,7 +21,7 @@ pub record IsWholeChart (c : Chart) : Type 0 where
   pub steps : c.steps.now ≡ steps_in (arrows_seen c.ways.now)
 
 -- where an arrow begins and ends
-abbrev pub ends_of : Chart → Way → Ends
+abbrev pub ends_of : Chart → MessageArrow → Ends
 ends_of c w = record {
   x0 = task_x c.tasks.now w.from;
   y0 = step_y c.steps.now w.start;

@@ -3,10 +3,10 @@ use Rattle.std.specs.Prelude.{◌≡◌}
 use Rattle.rh_defs.specs.Desk.{Task}
 use Rattle.rh_defs.specs.Heap.{first_place}
 use Rattle.rh_defs.specs.Questions.{block_items}
-use Rattle.rh_draw.specs.DrawRows.{plot_of}
+use Rattle.rh_elements.specs.DrawRows.{plot_of}
 use Rattle.rh_figure.specs.Scene.{Scene}
 use Rattle.rh_sheet.specs.SheetAreas.{slot_frame, slot_plot}
-use Rattle.rh_sight.specs.Walks.{census_of}
+use Rattle.rh_scene.specs.Walks.{census_of}
 use Rattle.rh_painted.specs.declared.slots.Plan.{Plan}
 
 -- the plan is of the slot of a task in a scene

@@ -5,7 +5,7 @@ use Rattle.rh_defs.specs.Chain.{Granted, ◌>>=◌, ◌>>◌, refuse_if}
 use Rattle.rh_defs.specs.Desk.{Task, idle_block}
 use Rattle.rh_defs.specs.Memory.{Memory}
 use Rattle.rh_defs.specs.Records.{is_open, is_full}
-use Rattle.rh_tasks.specs.declared.saving.Source.{Source}
+use Rattle.rh_tasks.specs.declared.saving.SourceBlock.{SourceBlock}
 use Rattle.rh_tasks.specs.declared.seat.Seat.{Seat}
 use Rattle.rh_tasks.specs.View.{task_of}
 use Rattle.rh_tasks.specs.Finding.{FoundSeat}
@@ -15,7 +15,7 @@ abbrev pub source_block : ℕ → Task → Granted ℕ
 source_block k t = idle_block k t >>= (λ b. refuse_if (is_full is_open t.sending) Busy >> Ok (length b.here.bytes))
 
 -- the task with the name may offer its block, which has so many bytes
-pub record CanOffer (k : ℕ) (m : Memory) (name : List ℕ) (seats : List Seat) (source : Source) : Type 0 where
+pub record CanOffer (k : ℕ) (m : Memory) (name : List ℕ) (seats : List Seat) (source : SourceBlock) : Type 0 where
   pub seat : Seat
   pub found : FoundSeat name seats source.place seat
   pub given : source_block k (task_of m seat) ≡ Ok source.size

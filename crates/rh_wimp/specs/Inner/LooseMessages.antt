@@ -28,6 +28,6 @@ pub record Lifted (m : Memory) (module_area : Module) (q : Chains) (post : Post)
   pub may : MayBounce m module_area q (record post { queued = t.1 }) t.0 block
 
 -- the first message for a task was taken off its chain, where there is one
-abbrev pub LiftsFirst : Memory → Module → Chains → Post → ℕ → Option ℕ → Type 0
-LiftsFirst m module_area q post h None = (first_for h post.queued ≡ None) × SpellsPostIn m module_area q post
-LiftsFirst m module_area q post h (Some block) = (t : Parcel × List Parcel) × Lifted m module_area q post h block t
+abbrev pub TakesFirst : Memory → Module → Chains → Post → ℕ → Option ℕ → Type 0
+TakesFirst m module_area q post h None = (first_for h post.queued ≡ None) × SpellsPostIn m module_area q post
+TakesFirst m module_area q post h (Some block) = (t : Parcel × List Parcel) × Lifted m module_area q post h block t

@@ -1,35 +1,35 @@
-//! What is done on a desk that a program in C holds: its station is taken out, and put back.
+//! What is done on a desk that a program in C holds: its open desk is taken out, and put back.
 ghost use Rattle.std.specs.Prelude.{◌≡◌, ◌≢◌, true, Option, Some, None, IfSome};
 ghost use Rattle.std.specs.Option.{option_map};
 ghost use Rattle.rh_defs.specs.Desk.{Desk};
 ghost use Rattle.rh_defs.specs.Range.{in_range};
 ghost use Rattle.rh_defs.specs.declared.command.Command.TheVariants as Command;
-ghost use Rattle.vf_desk.specs.Called.{IsAsked, called, desk_by, in_form, status_of};
+ghost use Rattle.vf_desk.specs.CallOutcome.{IsAsked, called, desk_by, in_form, status_of};
 ghost use Rattle.vf_desk.specs.Event.{next_ref_in};
 ghost use Rattle.vf_desk.specs.SeenDesk.{IsSeenDesk, KeepsRest};
 
-use crate::called::Called;
+use crate::call_outcome::CallOutcome;
 use crate::desk::VfDesk;
-use crate::handle::StationHandle;
-use crate::station::Station;
+use crate::handle::OpenDeskHandle;
+use crate::open_desk::OpenDesk;
 use rh_defs::Command;
 use std::alloc::Global;
 use std::mem;
 
 impl VfDesk {
     fn closed(alloc: Global) -> VfDesk
-        ensures { result.handle.station ≡ None }
+        ensures { result.handle.open_desk ≡ None }
     {
         VfDesk {
-            handle: StationHandle::empty(alloc),
+            handle: OpenDeskHandle::empty(alloc),
             live: false,
         }
     }
 
     /// Takes out what the handle has, so that nothing is left.
-    pub fn take(&mut self, alloc: Global) -> Option<Box<Station>>
-        ensures taken { option_map (λ station. station.value) result ≡ self.old.handle.station }
-        ensures left { self.new.handle.station ≡ None }
+    pub fn take(&mut self, alloc: Global) -> Option<Box<OpenDesk>>
+        ensures taken { option_map (λ open_desk. open_desk.value) result ≡ self.old.handle.open_desk }
+        ensures left { self.new.handle.open_desk ≡ None }
     {
         let VfDesk { handle, live } = mem::replace(self, VfDesk::closed(alloc));
         if live {
@@ -40,12 +40,12 @@ impl VfDesk {
     }
 
     /// Puts it into a handle that has nothing.
-    pub fn put(&mut self, station: Box<Station>)
-        requires { self.old.handle.station ≡ None }
-        ensures { self.new.handle.station ≡ Some station.value }
+    pub fn put(&mut self, open_desk: Box<OpenDesk>)
+        requires { self.old.handle.open_desk ≡ None }
+        ensures { self.new.handle.open_desk ≡ Some open_desk.value }
     {
         let live = VfDesk {
-            handle: StationHandle::of(station),
+            handle: OpenDeskHandle::of(open_desk),
             live: true,
         };
         let VfDesk { handle, live: _ } = mem::replace(self, live);
@@ -53,38 +53,38 @@ impl VfDesk {
     }
 
     /// Does a command on the desk, if it is open and there is one; else nothing changes.
-    pub fn step(&mut self, alloc: Global, command: &Option<Command>) -> Called
+    pub fn step(&mut self, alloc: Global, command: &Option<Command>) -> CallOutcome
         requires { IfSome command.now (λ c. in_range c ≡ true) }
         ensures said { (s : Option Desk) → IsSeenDesk self.old s → result ≡ called s command.now }
         ensures desk { (s : Option Desk) → IsSeenDesk self.old s → IsSeenDesk self.new (desk_by s command.now) }
-        ensures rest { KeepsRest self.old.handle.station self.new.handle.station }
-        ensures refused { status_of result ≢ 0 → self.new.handle.station ≡ self.old.handle.station }
-        ensures asked { IsAsked command.now → self.new.handle.station ≡ self.old.handle.station }
+        ensures rest { KeepsRest self.old.handle.open_desk self.new.handle.open_desk }
+        ensures refused { status_of result ≢ 0 → self.new.handle.open_desk ≡ self.old.handle.open_desk }
+        ensures asked { IsAsked command.now → self.new.handle.open_desk ≡ self.old.handle.open_desk }
     {
-        let Some(mut station) = self.take(alloc) else {
-            return Called::Closed;
+        let Some(mut open_desk) = self.take(alloc) else {
+            return CallOutcome::Closed;
         };
-        let called = station.step(command);
-        self.put(station);
+        let called = open_desk.step(command);
+        self.put(open_desk);
         called
     }
 
     /// The same, with the ref of the message that is sent next before the command is done: 0 on a closed desk, or where
     /// no ref is left.
-    pub fn step_sending(&mut self, alloc: Global, command: &Option<Command>) -> (Called, u32)
+    pub fn step_sending(&mut self, alloc: Global, command: &Option<Command>) -> (CallOutcome, u32)
         requires { IfSome command.now (λ c. in_range c ≡ true) }
         ensures said { (s : Option Desk) → IsSeenDesk self.old s → result.0 ≡ called s command.now }
         ensures next { (s : Option Desk) → IsSeenDesk self.old s → result.1 ≡ next_ref_in s }
         ensures desk { (s : Option Desk) → IsSeenDesk self.old s → IsSeenDesk self.new (desk_by s command.now) }
-        ensures rest { KeepsRest self.old.handle.station self.new.handle.station }
-        ensures refused { status_of result.0 ≢ 0 → self.new.handle.station ≡ self.old.handle.station }
+        ensures rest { KeepsRest self.old.handle.open_desk self.new.handle.open_desk }
+        ensures refused { status_of result.0 ≢ 0 → self.new.handle.open_desk ≡ self.old.handle.open_desk }
     {
-        let Some(mut station) = self.take(alloc) else {
-            return (Called::Closed, 0);
+        let Some(mut open_desk) = self.take(alloc) else {
+            return (CallOutcome::Closed, 0);
         };
-        let my_ref = station.next_ref();
-        let said = station.step(command);
-        self.put(station);
+        let my_ref = open_desk.next_ref();
+        let said = open_desk.step(command);
+        self.put(open_desk);
         (said, my_ref)
     }
 
@@ -96,19 +96,19 @@ impl VfDesk {
         anchor: u32,
         offset: u32,
         from: &[u8],
-    ) -> Called
+    ) -> CallOutcome
         ensures said { (s : Option Desk) → IsSeenDesk self.old s →
             result ≡ called s (in_form (Command.Put name.now anchor offset from.now)) }
         ensures desk { (s : Option Desk) → IsSeenDesk self.old s →
             IsSeenDesk self.new (desk_by s (in_form (Command.Put name.now anchor offset from.now))) }
-        ensures rest { KeepsRest self.old.handle.station self.new.handle.station }
-        ensures refused { status_of result ≢ 0 → self.new.handle.station ≡ self.old.handle.station }
+        ensures rest { KeepsRest self.old.handle.open_desk self.new.handle.open_desk }
+        ensures refused { status_of result ≢ 0 → self.new.handle.open_desk ≡ self.old.handle.open_desk }
     {
-        let Some(mut station) = self.take(alloc) else {
-            return Called::Closed;
+        let Some(mut open_desk) = self.take(alloc) else {
+            return CallOutcome::Closed;
         };
-        let called = station.write(name, anchor, offset, from);
-        self.put(station);
+        let called = open_desk.write(name, anchor, offset, from);
+        self.put(open_desk);
         called
     }
 }

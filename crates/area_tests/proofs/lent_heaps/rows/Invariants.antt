@@ -1,5 +1,5 @@
 use Rattle.std.specs.Prelude.{vec_items}
-use Rattle.rh_lent.specs.Heaps.{IsHeapBytes}
+use Rattle.rh_lent_heap.specs.Heaps.{IsHeapBytes}
 use Rattle.area_tests.proofs.lent_heaps.rows.Given as goal
 
 -- the bytes spell a heap

@@ -1,5 +1,5 @@
 use Rattle.std.specs.Prelude.{vec_items}
-use Rattle.rh_flex.specs.Slots.{IsSlotBytes}
+use Rattle.rh_lent_slot.specs.Slots.{IsSlotBytes}
 use Rattle.area_tests.proofs.lent_slots.rows.Given as goal
 
 -- the bytes spell a slot

@@ -1,7 +1,7 @@
 use Rattle.rh_drawn.proofs.Common.{◌≡◌, ℕ, false, List, [], ◌∷◌, length, ap, ap₂, sym, ◌∙◌, arith, if◌then◌else◌, ◌==◌, ◌||◌, slice_index, ne_eqb}
 use Rattle.rh_drawn.proofs.Common.{Panel, Scene, AreaOf, Text, append-nil, fixed_panel, flat_map, module_pages, scene_at}
 use Rattle.rh_figure.specs.Figure.{area_panel, fixed_note, listed_pages, numbers_text, scrap_text}
-use Rattle.rh_sight.specs.declared.sight.PagesOf.TheVariants as pages
+use Rattle.rh_scene.specs.declared.sight.PagesOf.TheVariants as pages
 use Rattle.rh_drawn.proofs.PageLemmas.{owned, owned-few, owned-fixed, seen-fixed}
 use Rattle.rh_drawn.proofs.Walks.{offered_as}
 use Rattle.rh_drawn.proofs.areas.show_fixed.Goals as goal

@@ -1,7 +1,7 @@
 use Rattle.rh_drawn.proofs.Common.{◌≡◌, ℕ, List, length, map, ap, refl, ◌∙◌, arith, flat_map, Made, made_panel, AreaOf, scene_at}
 use Rattle.rh_figure.specs.Figure.{area_panel, listed_pages, made_note}
 use Rattle.rh_map.proofs.Left.{left_less, left_none}
-use Rattle.rh_sight.specs.declared.sight.PagesOf.TheVariants as pages
+use Rattle.rh_scene.specs.declared.sight.PagesOf.TheVariants as pages
 use Rattle.rh_drawn.proofs.PageLemmas.{made-above, owned, owned-few, owned-made, seen-made}
 use Rattle.rh_drawn.proofs.TextWalks.{text-none, text-some}
 use Rattle.rh_drawn.proofs.Walks.{offered_as}

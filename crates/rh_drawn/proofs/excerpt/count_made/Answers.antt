@@ -1,5 +1,5 @@
 use Rattle.rh_drawn.proofs.Common.{arith, slice_get_within}
-use Rattle.rh_sight.proofs.Places.{past-end}
+use Rattle.rh_scene.proofs.Places.{past-end}
 use Rattle.rh_drawn.proofs.excerpt.count_made.Goals as goal
 
 pub overflow_add-i : goal.overflow_add-i

@@ -2,7 +2,7 @@ use Rattle.rh_drawn.proofs.Common.{◌∙◌, ◌≤◌, length, take, ap, arith
 use Rattle.rh_drawn.proofs.Common.{at-some, band_cards}
 use Rattle.rh_map.proofs.Left.{left_less, left_none, left_whole}
 use Rattle.rh_drawn.proofs.HeapLemmas.{from-first, if-heap, band-heap, got-is, in-band, told-here}
-use Rattle.rh_sight.proofs.Heaps.{comes-parts}
+use Rattle.rh_scene.proofs.Heaps.{comes-parts}
 use Rattle.rh_drawn.proofs.CardLemmas.{get-front, cards-end, cards-some}
 use Rattle.rh_drawn.proofs.heap_cards.show_first.Goals as goal
 

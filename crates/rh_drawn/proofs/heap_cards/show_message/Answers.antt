@@ -3,7 +3,7 @@ use Rattle.rh_defs.specs.declared.message.Action.{Action}
 use Rattle.rh_defs.specs.declared.message.EventCode.{EventCode}
 use Rattle.rh_figure.specs.Cards.{chain_text, message_card}
 use Rattle.rh_figure.specs.Layout.{is_new_message}
-use Rattle.rh_sight.specs.SightMessages.{message_place}
+use Rattle.rh_scene.specs.SightMessages.{message_place}
 use Rattle.rh_drawn.specs.Inner.BandItems.{place_seen}
 use Rattle.rh_drawn.proofs.PostLemmas.{chain-is}
 use Rattle.rh_drawn.proofs.Walks.{offered_as}

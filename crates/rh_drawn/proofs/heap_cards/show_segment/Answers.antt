@@ -3,9 +3,9 @@ use Rattle.rh_drawn.proofs.Common.{message_items, waiting_on, heap_seen, heap_st
 use Rattle.rh_drawn.proofs.Walks.{offered_as}
 use Rattle.rh_defs.specs.Post.{post_is_message}
 use Rattle.rh_figure.specs.Scene.{live, message_of_scene}
-use Rattle.rh_sight.specs.declared.sight.HeapOf.{HeapOf}
-use Rattle.rh_sight.specs.SightMessages.{lies_in}
-use Rattle.rh_sight.specs.Seen.{SeesBlock, SeesFree}
+use Rattle.rh_scene.specs.declared.sight.HeapOf.{HeapOf}
+use Rattle.rh_scene.specs.SightMessages.{lies_in}
+use Rattle.rh_scene.specs.Seen.{SeesBlock, SeesFree}
 use Rattle.rh_drawn.proofs.HeapLemmas.{block-free, has-block, module-is, posted-is, task-is, told-none, told-some, used-here}
 use Rattle.rh_drawn.proofs.PostLemmas.{Told, message-told, stands_in}
 use Rattle.rh_drawn.proofs.heap_cards.show_segment.Goals as goal

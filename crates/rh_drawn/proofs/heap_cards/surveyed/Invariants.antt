@@ -1,5 +1,5 @@
 use Rattle.rh_drawn.proofs.Common.{◌≡◌, ◌+◌, drop, length, Desk, is_fresh_card, with_items, scene_at}
-use Rattle.rh_sight.specs.Steps.{IsStepOf}
+use Rattle.rh_scene.specs.Steps.{IsStepOf}
 use Rattle.rh_drawn.proofs.heap_cards.surveyed.Given as goal
 
 -- the segments from the place on are left

@@ -1,5 +1,5 @@
 use Rattle.rh_drawn.proofs.Common.{◌∙◌, ◌-◌, length, take, ap, refl, arith, slice_get, heap_seen, heap_start_of, scene_at, IsSurvey, is_fresh_card, with_items}
-use Rattle.rh_sight.proofs.Heaps.{comes-next, comes-parts, counted-all, counted-more, counted-none, seen, start-small, stepped, told}
+use Rattle.rh_scene.proofs.Heaps.{comes-next, comes-parts, counted-all, counted-more, counted-none, seen, start-small, stepped, told}
 use Rattle.rh_drawn.proofs.HeapLemmas.{all-in-area, band-heap, from-first, if-heap, surveyed-all, surveyed-more}
 use Rattle.rh_drawn.proofs.heap_cards.take_survey.Goals as goal
 use Rattle.rh_defs.specs.declared.sizes.TheConstants.{SEGMENTS_AT_ONCE}

@@ -1,5 +1,5 @@
 use Rattle.rh_drawn.proofs.Common.{◌≡◌, ◌-◌, Some, Heap, heap_seen, heap_start_of, scene_at, is_fresh_card}
-use Rattle.rh_sight.proofs.Heaps.{end_of}
+use Rattle.rh_scene.proofs.Heaps.{end_of}
 use Rattle.rh_drawn.proofs.HeapLemmas.{Surveyed}
 use Rattle.rh_drawn.proofs.heap_cards.take_survey.Given as goal
 

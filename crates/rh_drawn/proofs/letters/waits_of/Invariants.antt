@@ -1,7 +1,7 @@
 use Rattle.rh_drawn.proofs.Common.{◌≡◌, length, take, filter, map, min}
 use Rattle.rh_drawn.specs.Inner.LettersBehind.{entry_seen}
 use Rattle.rh_figure.specs.declared.limits.TheConstants.{MOST_LISTED}
-use Rattle.rh_sight.specs.SightMessages.{waits_for}
+use Rattle.rh_scene.specs.SightMessages.{waits_for}
 use Rattle.rh_drawn.proofs.letters.waits_of.Given as goal
 
 -- those so far are counted, and the first of them are kept

@@ -4,7 +4,7 @@ use Rattle.rh_figure.specs.Cards.{module_cards}
 use Rattle.rh_figure.specs.Figure.{module_drawing}
 use Rattle.rh_figure.specs.Map.{name_with_mark}
 use Rattle.rh_figure.specs.Phrases.{pages_text}
-use Rattle.rh_sight.specs.declared.sight.PagesOf.TheVariants as pages
+use Rattle.rh_scene.specs.declared.sight.PagesOf.TheVariants as pages
 use Rattle.rh_drawn.proofs.CardLemmas.{cards-lined}
 use Rattle.rh_drawn.proofs.DrawingLemmas.{rows-are}
 use Rattle.rh_drawn.proofs.PageLemmas.{owned, owned-few, seen-fixed}

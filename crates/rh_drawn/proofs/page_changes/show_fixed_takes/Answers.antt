@@ -2,8 +2,8 @@ use Rattle.rh_drawn.proofs.Common.{◌<◌, ◌≤◌, List, ℕ, ap, arith, dro
 use Rattle.rh_drawn.proofs.Common.{AreaOf, fixed_holding, scene_at}
 use Rattle.rh_figure.specs.Changes.{takes_text}
 use Rattle.rh_map.proofs.Left.{left_less, left_none, left_whole}
-use Rattle.rh_sight.specs.declared.sight.PagesOf.TheVariants as pages
-use Rattle.rh_sight.proofs.Holders.{count-fixed}
+use Rattle.rh_scene.specs.declared.sight.PagesOf.TheVariants as pages
+use Rattle.rh_scene.proofs.Holders.{count-fixed}
 use Rattle.rh_drawn.proofs.ElementLemmas.{parts-both}
 use Rattle.rh_drawn.proofs.PageLemmas.{numbered-next, seen-fixed}
 use Rattle.rh_drawn.proofs.Walks.{offered_as}

@@ -1,6 +1,6 @@
 use Rattle.rh_drawn.proofs.Common.{ap, map, refl, flat_map, option_map, List, Made, AreaOf, made_holding, scene_at}
-use Rattle.rh_sight.specs.declared.sight.PagesOf.TheVariants as pages
-use Rattle.rh_sight.proofs.Holders.{count-made}
+use Rattle.rh_scene.specs.declared.sight.PagesOf.TheVariants as pages
+use Rattle.rh_scene.proofs.Holders.{count-made}
 use Rattle.rh_figure.specs.Changes.{takes_text}
 use Rattle.rh_map.proofs.Left.{left_less, left_none}
 use Rattle.rh_drawn.proofs.ElementLemmas.{parts-both}

@@ -2,7 +2,7 @@ use Rattle.rh_drawn.proofs.Common.{◌≡◌, ◌<◌, ◌≤◌, ◌-◌, ◌++
 use Rattle.rh_drawn.proofs.Common.{SlotOf, count_of, task_at, task_pages, IsTaskSeen, scene_at}
 use Rattle.std.proofs.lemmas.List.{take_rest}
 use Rattle.rh_figure.specs.Phrases.{name_or}
-use Rattle.rh_sight.specs.declared.sight.PagesOf.TheVariants as pages
+use Rattle.rh_scene.specs.declared.sight.PagesOf.TheVariants as pages
 use Rattle.rh_drawn.proofs.DrawingLemmas.{seen-same, task-stands}
 use Rattle.rh_drawn.proofs.PageLemmas.{owned, owned-few, owned-slot, seen-slot, takes-one}
 use Rattle.rh_drawn.proofs.Walks.{offered_as}

@@ -1,6 +1,6 @@
 use Rattle.rh_drawn.proofs.Common.{[], ◌+◌, drop, map, ap, ap₂, sym, ◌∙◌, AreaOf, share_in, rest-none, rest-some}
 use Rattle.rh_drawn.proofs.Common.{made_pages, marked, marked_all}
-use Rattle.rh_sight.specs.declared.sight.PagesOf.TheVariants as pages
+use Rattle.rh_scene.specs.declared.sight.PagesOf.TheVariants as pages
 use Rattle.rh_drawn.proofs.PageLemmas.{owned, seen-made}
 use Rattle.rh_drawn.proofs.pool.mark_made.Goals as goal
 

@@ -1,6 +1,6 @@
 use Rattle.rh_drawn.proofs.Common.{◌≡◌, [], ◌<◌, ◌≤◌, ◌+◌, length, drop, map, ap, ap₂, sym, refl, ◌∙◌, arith, replicate, enumerate_from, range_with_len}
 use Rattle.rh_drawn.proofs.Common.{drop_all, owner_of, page_mark, AreaOf, share_in, scene_at, made_pages, marked, marked_all, slot_pages_from, slot_panels}
-use Rattle.rh_sight.specs.declared.sight.PagesOf.TheVariants as pages
+use Rattle.rh_scene.specs.declared.sight.PagesOf.TheVariants as pages
 use Rattle.rh_drawn.proofs.MarkLemmas.{fixed_pages, pool-marked}
 use Rattle.rh_drawn.proofs.PageLemmas.{numbered-next, owned, seen-fixed}
 use Rattle.rh_drawn.proofs.pool.mark_pool.Goals as goal

@@ -1,6 +1,6 @@
 use Rattle.rh_drawn.proofs.Common.{suc, add-one, ◌+◌, drop, ap, ap₂, sym, ◌∙◌, arith, slice_get_within, SlotOf, share_in, rest-none, rest-some}
 use Rattle.rh_drawn.proofs.Common.{marked, marked_all, slot_pages_from}
-use Rattle.rh_sight.specs.declared.sight.PagesOf.TheVariants as pages
+use Rattle.rh_scene.specs.declared.sight.PagesOf.TheVariants as pages
 use Rattle.rh_drawn.proofs.PageLemmas.{owned, seen-slot}
 use Rattle.rh_drawn.proofs.pool.mark_slots.Goals as goal
 

@@ -6,11 +6,11 @@ use Rattle.rh_defs.specs.Slot.{heap_start}
 use Rattle.rh_figure.specs.Cards.{cards_from, heap_cards}
 use Rattle.rh_figure.specs.Figure.{slot_drawing}
 use Rattle.rh_figure.specs.Map.{drawing_lines}
-use Rattle.rh_sight.specs.declared.sight.HeapOf.TheVariants as heap_of
-use Rattle.rh_sight.specs.declared.sight.PagesOf.TheVariants as pages
-use Rattle.rh_sight.proofs.Heaps.{task-slot}
-use Rattle.rh_sight.proofs.PieceWalks.{items-long}
-use Rattle.rh_sight.proofs.SlotPieces.{few-blocks}
+use Rattle.rh_scene.specs.declared.sight.HeapOf.TheVariants as heap_of
+use Rattle.rh_scene.specs.declared.sight.PagesOf.TheVariants as pages
+use Rattle.rh_scene.proofs.Heaps.{task-slot}
+use Rattle.rh_scene.proofs.PieceWalks.{items-long}
+use Rattle.rh_scene.proofs.SlotPieces.{few-blocks}
 use Rattle.rh_drawn.specs.Bands.{card_of_task}
 use Rattle.rh_drawn.proofs.CardLemmas.{cards-lined}
 use Rattle.rh_drawn.proofs.DrawingLemmas.{rows-are}

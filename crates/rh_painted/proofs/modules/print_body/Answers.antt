@@ -6,7 +6,7 @@ use Rattle.rh_sheet.specs.SheetAreas.{module_frame}
 use Rattle.rh_sheet.specs.SheetCards.{cards_below}
 use Rattle.rh_sheet.specs.Frames.{rows_foot}
 use Rattle.rh_sheet.specs.SheetRows.{rows_text}
-use Rattle.rh_sight.specs.declared.sight.PagesOf.TheVariants as pages
+use Rattle.rh_scene.specs.declared.sight.PagesOf.TheVariants as pages
 use Rattle.rh_drawn.proofs.PageLemmas.{owned-fixed}
 use Rattle.rh_painted.proofs.SlotLemmas.{EndsBy, heap-ends}
 use Rattle.rh_drawn.proofs.TextPuts.{text_last, text_then}

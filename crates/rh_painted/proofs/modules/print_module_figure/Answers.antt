@@ -4,7 +4,7 @@ use Rattle.rh_painted.proofs.Common.{offered_as}
 use Rattle.rh_figure.specs.Cards.{module_card}
 use Rattle.rh_sheet.specs.SheetAreas.{rows_for}
 use Rattle.rh_sheet.specs.Frames.{frame_height}
-use Rattle.rh_sight.specs.declared.sight.PagesOf.TheVariants as pages
+use Rattle.rh_scene.specs.declared.sight.PagesOf.TheVariants as pages
 use Rattle.rh_drawn.proofs.TextPuts.{text_last, text_then}
 use Rattle.rh_painted.proofs.modules.print_module_figure.Goals as goal
 

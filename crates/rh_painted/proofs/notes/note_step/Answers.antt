@@ -2,7 +2,7 @@ use Rattle.rh_painted.proofs.Common.{◌≤◌, [], ◌∷◌, ◌++◌, None, S
 use Rattle.rh_painted.proofs.Common.{message_items, code_among}
 use Rattle.rh_sheet.specs.declared.sizes.TheConstants.{MOST_NOTES}
 use Rattle.rh_sheet.specs.Chart.{last_of}
-use Rattle.rh_sight.specs.Seen.{letter_seen}
+use Rattle.rh_scene.specs.Seen.{letter_seen}
 use Rattle.rh_painted.proofs.NoteLemmas.{last-few, noted-is}
 use Rattle.rh_painted.proofs.notes.note_step.Goals as goal
 

@@ -10,13 +10,13 @@ use Rattle.rh_sheet.specs.Arrows.{slide_arrow}
 use Rattle.rh_sheet.specs.SheetCards.{cards_above, cards_below}
 use Rattle.rh_sheet.specs.Frames.{row_y, rows_foot, rows_top}
 use Rattle.rh_sheet.specs.SheetRows.{rows_text}
-use Rattle.rh_sight.specs.declared.sight.HeapOf.TheVariants as heap_of
-use Rattle.rh_sight.specs.declared.sight.PagesOf.TheVariants as pages
-use Rattle.rh_sight.proofs.Heaps.{task-length}
+use Rattle.rh_scene.specs.declared.sight.HeapOf.TheVariants as heap_of
+use Rattle.rh_scene.specs.declared.sight.PagesOf.TheVariants as pages
+use Rattle.rh_scene.proofs.Heaps.{task-length}
 use Rattle.rh_drawn.specs.Bands.{card_of_task}
 use Rattle.rh_drawn.proofs.DrawingLemmas.{task-stands}
 use Rattle.rh_painted.specs.Inner.BandTexts.{band_text}
-use Rattle.rh_painted.specs.declared.bands.Form.TheVariants.{Below}
+use Rattle.rh_painted.specs.declared.bands.BandForm.TheVariants.{Below}
 use Rattle.rh_painted.proofs.LensLemmas.{arrow-same}
 use Rattle.rh_painted.proofs.SlotLemmas.{EndsBy, anchors-small, slot-ends}
 use Rattle.rh_drawn.proofs.TextPuts.{text_last, text_then}

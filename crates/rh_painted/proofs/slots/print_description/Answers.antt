@@ -6,11 +6,11 @@ use Rattle.rh_defs.specs.Heap.{first_place}
 use Rattle.rh_figure.specs.Cards.{cards_from}
 use Rattle.rh_sheet.specs.SheetAreas.{pages_sentence}
 use Rattle.rh_sheet.specs.SheetCards.{cards_sentences}
-use Rattle.rh_sight.specs.declared.sight.HeapOf.TheVariants as heap_of
-use Rattle.rh_sight.specs.declared.sight.PagesOf.TheVariants as pages
+use Rattle.rh_scene.specs.declared.sight.HeapOf.TheVariants as heap_of
+use Rattle.rh_scene.specs.declared.sight.PagesOf.TheVariants as pages
 use Rattle.rh_drawn.specs.Bands.{card_of_task}
 use Rattle.rh_painted.specs.Inner.BandTexts.{band_text}
-use Rattle.rh_painted.specs.declared.bands.Form.TheVariants.{Told}
+use Rattle.rh_painted.specs.declared.bands.BandForm.TheVariants.{Told}
 use Rattle.rh_painted.proofs.BandLemmas.{told-all}
 use Rattle.rh_drawn.proofs.TextPuts.{text_then}
 use Rattle.rh_painted.proofs.slots.print_description.Goals as goal

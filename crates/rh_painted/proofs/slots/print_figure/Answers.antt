@@ -3,8 +3,8 @@ use Rattle.rh_painted.proofs.Common.{Piece, SlotOf, count_of, Frame, Plot, Censu
 use Rattle.rh_figure.specs.Cards.{heap_card}
 use Rattle.rh_sheet.specs.SheetAreas.{rows_for}
 use Rattle.rh_sheet.specs.Owners.{task_class}
-use Rattle.rh_sight.specs.declared.sight.PagesOf.TheVariants as pages
-use Rattle.rh_sight.specs.declared.sight.TaskSight.{TaskSight}
+use Rattle.rh_scene.specs.declared.sight.PagesOf.TheVariants as pages
+use Rattle.rh_scene.specs.declared.sight.TaskSight.{TaskSight}
 use Rattle.rh_painted.proofs.slots.print_figure.Goals as goal
 
 abbrev frame_with : ℕ → ℕ → ℕ → Frame

@@ -2,7 +2,7 @@ use Rattle.rh_painted.proofs.Common.{◌≡◌, ◌+◌, length, ap, refl, sym, 
 use Rattle.rh_painted.proofs.Common.{Frame, Census, IsTaskSeen, scene_at, task-slot, items-long, few-blocks, flex-long, seen-same, cards-long, owned-few}
 use Rattle.rh_painted.proofs.Common.{seen-slot, offered_as, IsSlotPlan}
 use Rattle.rh_figure.specs.Cards.{heap_card}
-use Rattle.rh_sight.specs.declared.sight.PagesOf.TheVariants as pages
+use Rattle.rh_scene.specs.declared.sight.PagesOf.TheVariants as pages
 use Rattle.rh_drawn.proofs.PageLemmas.{owned-slot}
 use Rattle.rh_painted.proofs.LensLemmas.{above-same, below-same}
 use Rattle.rh_drawn.proofs.TextPuts.{text_then}

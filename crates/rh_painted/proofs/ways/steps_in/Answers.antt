@@ -1,4 +1,4 @@
-use Rattle.rh_painted.proofs.Common.{◌≡◌, ◌+◌, ◌∷◌, [], ◌++◌, List, ap, sym, ◌∙◌, arith, length, length-append, Way}
+use Rattle.rh_painted.proofs.Common.{◌≡◌, ◌+◌, ◌∷◌, [], ◌++◌, List, ap, sym, ◌∙◌, arith, length, length-append, MessageArrow}
 use Rattle.std.proofs.lemmas.List.{nil_from_length}
 use Rattle.rh_painted.specs.Inner.WaySteps.{with_step}
 use Rattle.rh_painted.proofs.WayLemmas.{steps-are, with_steps, with_steps-last}
@@ -6,8 +6,8 @@ use Rattle.rh_painted.proofs.ways.steps_in.Goals as goal
 
 pub loop-last-preserved : goal.loop-last-preserved
 loop-last-preserved c =
-    let front : List Way = c.in-Some.front.now in
-    let last : Way = c.in-Some.last.now in
+    let front : List MessageArrow = c.in-Some.front.now in
+    let last : MessageArrow = c.in-Some.last.now in
     let split : c.loop-last.rest.now ≡ front ++ last ∷ [] = c.in-Some.ensures.cases.0 in
     let more : c.put_step-in-Some.new.steps.items ≡ with_step last.start (with_step last.stop c.loop-last.steps.items) =
     c.put_step-in-Some.ensures.value ∙ ap (with_step last.start) c.put_step.ensures.value in

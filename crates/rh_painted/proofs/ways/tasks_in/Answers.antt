@@ -1,12 +1,12 @@
-use Rattle.rh_painted.proofs.Common.{◌≡◌, ◌+◌, ◌∷◌, [], ◌++◌, List, ap, sym, ◌∙◌, arith, length, length-append, inserted, Way}
+use Rattle.rh_painted.proofs.Common.{◌≡◌, ◌+◌, ◌∷◌, [], ◌++◌, List, ap, sym, ◌∙◌, arith, length, length-append, inserted, MessageArrow}
 use Rattle.std.proofs.lemmas.List.{nil_from_length}
 use Rattle.rh_painted.proofs.WayLemmas.{tasks-are, with_tasks, with_tasks-last}
 use Rattle.rh_painted.proofs.ways.tasks_in.Goals as goal
 
 pub loop-last-preserved : goal.loop-last-preserved
 loop-last-preserved c =
-    let front : List Way = c.in-Some.front.now in
-    let last : Way = c.in-Some.last.now in
+    let front : List MessageArrow = c.in-Some.front.now in
+    let last : MessageArrow = c.in-Some.last.now in
     let split : c.loop-last.rest.now ≡ front ++ last ∷ [] = c.in-Some.ensures.cases.0 in
     let more : c.put_number-in-Some.new.numbers.items ≡ inserted last.from (inserted last.to c.loop-last.tasks.items) =
     c.put_number-in-Some.ensures.value ∙ ap (inserted last.from) c.put_number.ensures.value in

@@ -1,11 +1,12 @@
-use Rattle.vf_desk.specs.Called.{number_or}
+use Rattle.vf_desk.specs.CallOutcome.{number_or}
 use Rattle.vf_desk.proofs.CallLaws.{does, told_by}
 use Rattle.vf_desk.proofs.areas.vf_desk_make.Goals as goal
 
 pub returns-clause-does : goal.returns-clause-does
 returns-clause-does c =
-    does c.args.desk.now c.checked-command.ensures.form c.step.ensures.said c.step.ensures.desk c.step.ensures.rest c.step.ensures.refused c.told.ensures.status
+    does c.args.desk.now c.checked-command.ensures.form c.step.ensures.said c.step.ensures.desk c.step.ensures.rest
+    c.step.ensures.refused c.give_number.ensures.status
 
 pub returns-clause-number : goal.returns-clause-number
 returns-clause-number c =
-    told_by c.args.desk.now c.checked-command.ensures.form c.step.ensures.said (λ said. number_or said c.args.number.now) c.told.ensures.number
+    told_by c.args.desk.now c.checked-command.ensures.form c.step.ensures.said (λ said. number_or said c.args.number.now) c.give_number.ensures.number

@@ -4,7 +4,7 @@ use Rattle.vf_desk.proofs.SeenLaws.{held-by}
 use Rattle.vf_desk.proofs.opening.vf_desk_file.Goals as goal
 
 pub returns-in_default : goal.returns-in_default
-returns-in_default c = subst (λ h. Adds c.args.name.now c.args.bytes.now h c.first_file.new.desk.handle.station c.first_file.result)
+returns-in_default c = subst (λ h. Adds c.args.name.now c.args.bytes.now h c.first_file.new.desk.handle.open_desk c.first_file.result)
     (c.in_default.ensures.left ∙ c.in_default.ensures.taken) c.first_file.ensures
 
 pub returns : goal.returns

@@ -26,7 +26,7 @@ returns-in_default-clause-free c = shut-told question.Areas c.args.desk.now c.st
 
 pub returns-clause-asks : goal.returns-clause-asks
 returns-clause-asks c = open-asks question.Areas c.args.desk.now c.step-called.new.self c.asked.ensures.form c.step-called.ensures.said
-    c.step-called.ensures.asked c.in-Some.ensures.taken c.put.ensures c.told.ensures.status
+    c.step-called.ensures.asked c.in-Some.ensures.taken c.put.ensures c.give_number.ensures.status
 
 pub returns-clause-list : goal.returns-clause-list
 returns-clause-list c = open-list question.Areas c.args.desk.now c.step-called.new.self c.asked.ensures.form c.step-called.ensures.said
@@ -34,10 +34,10 @@ returns-clause-list c = open-list question.Areas c.args.desk.now c.step-called.n
 
 pub returns-clause-count : goal.returns-clause-count
 returns-clause-count c = ask-counted question.Areas c.args.desk.now c.step-called.new.self c.asked.ensures.form c.step-called.ensures.said
-    c.step-called.ensures.asked c.args.count.now (λ s. length (areas_listed (list_asked s question.Areas))) c.told_count.ensures.count
+    c.step-called.ensures.asked c.args.count.now (λ s. length (areas_listed (list_asked s question.Areas))) c.give_count.ensures.count
     (open-list question.Areas c.args.desk.now c.step-called.new.self c.asked.ensures.form c.step-called.ensures.said c.step-called.ensures.asked
     (ap Some c.deref.ensures ∙ c.in-Some.ensures.taken) c.areas-n.ensures.count)
 
 pub returns-clause-free : goal.returns-clause-free
 returns-clause-free c = ask-told question.Areas c.args.desk.now c.step-called.new.self c.asked.ensures.form c.step-called.ensures.said
-    c.step-called.ensures.asked (λ said. number_or said c.args.free.now) c.told.ensures.number
+    c.step-called.ensures.asked (λ said. number_or said c.args.free.now) c.give_number.ensures.number

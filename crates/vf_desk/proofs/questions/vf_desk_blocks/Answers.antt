@@ -22,7 +22,7 @@ returns-in_default-clause-count c = λ s seen. shut-counted (question.Blocks c.a
 
 pub returns-clause-asks : goal.returns-clause-asks
 returns-clause-asks c = open-asks (question.Blocks c.args.name.now) c.args.desk.now c.step-called.new.self c.blocks-2.ensures.form c.step-called.ensures.said
-    c.step-called.ensures.asked c.in-Some.ensures.taken c.put.ensures c.told_count.ensures.status
+    c.step-called.ensures.asked c.in-Some.ensures.taken c.put.ensures c.give_count.ensures.status
 
 pub returns-clause-list : goal.returns-clause-list
 returns-clause-list c = open-list (question.Blocks c.args.name.now) c.args.desk.now c.step-called.new.self c.blocks-2.ensures.form c.step-called.ensures.said
@@ -31,6 +31,6 @@ returns-clause-list c = open-list (question.Blocks c.args.name.now) c.args.desk.
 pub returns-clause-count : goal.returns-clause-count
 returns-clause-count c = ask-counted (question.Blocks c.args.name.now) c.args.desk.now c.step-called.new.self c.blocks-2.ensures.form
     c.step-called.ensures.said c.step-called.ensures.asked c.args.count.now (λ s. length (blocks_listed (list_asked s (question.Blocks c.args.name.now))))
-    c.told_count.ensures.count
+    c.give_count.ensures.count
     (open-list (question.Blocks c.args.name.now) c.args.desk.now c.step-called.new.self c.blocks-2.ensures.form c.step-called.ensures.said
     c.step-called.ensures.asked (ap Some c.deref.ensures ∙ c.in-Some.ensures.taken) c.blocks-n.ensures.count)

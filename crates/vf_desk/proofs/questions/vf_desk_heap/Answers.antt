@@ -1,6 +1,6 @@
 use Rattle.vf_desk.proofs.Common.{length, Some, sym, ap, ◌∙◌, map, filled_front, list_asked}
 use Rattle.rh_defs.specs.declared.question.Question.TheVariants as question
-use Rattle.vf_desk.specs.Called.{sums_or}
+use Rattle.vf_desk.specs.CallOutcome.{sums_or}
 use Rattle.vf_desk.specs.DeskItems.{as_segment, segments_listed}
 use Rattle.vf_desk.proofs.AskLaws.{ask-counted, ask-told, open-asks, open-list, shut-asks, shut-counted, shut-list, shut-told}
 use Rattle.vf_desk.proofs.FillLaws.{filled-none}
@@ -27,7 +27,7 @@ returns-in_default-clause-sums c = shut-told (question.Heap c.args.name.now) c.a
 
 pub returns-clause-asks : goal.returns-clause-asks
 returns-clause-asks c = open-asks (question.Heap c.args.name.now) c.args.desk.now c.step-called.new.self c.heap.ensures.form c.step-called.ensures.said
-    c.step-called.ensures.asked c.in-Some.ensures.taken c.put.ensures c.told_sums.ensures.status
+    c.step-called.ensures.asked c.in-Some.ensures.taken c.put.ensures c.give_sums.ensures.status
 
 pub returns-clause-list : goal.returns-clause-list
 returns-clause-list c = open-list (question.Heap c.args.name.now) c.args.desk.now c.step-called.new.self c.heap.ensures.form c.step-called.ensures.said
@@ -35,10 +35,10 @@ returns-clause-list c = open-list (question.Heap c.args.name.now) c.args.desk.no
 
 pub returns-clause-count : goal.returns-clause-count
 returns-clause-count c = ask-counted (question.Heap c.args.name.now) c.args.desk.now c.step-called.new.self c.heap.ensures.form c.step-called.ensures.said
-    c.step-called.ensures.asked c.args.count.now (λ s. length (segments_listed (list_asked s (question.Heap c.args.name.now)))) c.told_count.ensures.count
+    c.step-called.ensures.asked c.args.count.now (λ s. length (segments_listed (list_asked s (question.Heap c.args.name.now)))) c.give_count.ensures.count
     (open-list (question.Heap c.args.name.now) c.args.desk.now c.step-called.new.self c.heap.ensures.form c.step-called.ensures.said
     c.step-called.ensures.asked (ap Some c.deref.ensures ∙ c.in-Some.ensures.taken) c.segments-n.ensures.count)
 
 pub returns-clause-sums : goal.returns-clause-sums
 returns-clause-sums c = ask-told (question.Heap c.args.name.now) c.args.desk.now c.step-called.new.self c.heap.ensures.form c.step-called.ensures.said
-    c.step-called.ensures.asked (λ said. sums_or said c.args.sums.now) c.told_sums.ensures.sums
+    c.step-called.ensures.asked (λ said. sums_or said c.args.sums.now) c.give_sums.ensures.sums

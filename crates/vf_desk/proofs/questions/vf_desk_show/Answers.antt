@@ -21,7 +21,7 @@ returns-in_default-clause-size c = shut-told (question.Show c.args.name.now c.ar
 
 pub returns-clause-asks : goal.returns-clause-asks
 returns-clause-asks c = open-asks (question.Show c.args.name.now c.args.anchor) c.args.desk.now c.step-called.new.self c.show.ensures.form
-    c.step-called.ensures.said c.step-called.ensures.asked c.in-Some.ensures.taken c.put.ensures c.told.ensures.status
+    c.step-called.ensures.said c.step-called.ensures.asked c.in-Some.ensures.taken c.put.ensures c.give_number.ensures.status
 
 pub returns-clause-bytes : goal.returns-clause-bytes
 returns-clause-bytes c = open-list (question.Show c.args.name.now c.args.anchor) c.args.desk.now c.step-called.new.self c.show.ensures.form
@@ -29,4 +29,4 @@ returns-clause-bytes c = open-list (question.Show c.args.name.now c.args.anchor)
 
 pub returns-clause-size : goal.returns-clause-size
 returns-clause-size c = ask-told (question.Show c.args.name.now c.args.anchor) c.args.desk.now c.step-called.new.self c.show.ensures.form
-    c.step-called.ensures.said c.step-called.ensures.asked (λ said. number_or said c.args.size.now) c.told.ensures.number
+    c.step-called.ensures.said c.step-called.ensures.asked (λ said. number_or said c.args.size.now) c.give_number.ensures.number

@@ -37,7 +37,7 @@ returns-in_default-clause-handle c = shut-told (question.Status c.args.name.now)
 
 pub returns-clause-asks : goal.returns-clause-asks
 returns-clause-asks c = open-asks (question.Status c.args.name.now) c.args.desk.now c.step-called.new.self c.status.ensures.form c.step-called.ensures.said
-    c.step-called.ensures.asked c.in-Some.ensures.taken c.put.ensures c.told.ensures.status
+    c.step-called.ensures.asked c.in-Some.ensures.taken c.put.ensures c.give_number.ensures.status
 
 pub returns-clause-out : goal.returns-clause-out
 returns-clause-out c = open-list (question.Status c.args.name.now) c.args.desk.now c.step-called.new.self c.status.ensures.form c.step-called.ensures.said
@@ -49,16 +49,16 @@ returns-clause-taken c = open-list (question.Status c.args.name.now) c.args.desk
 
 pub returns-clause-outs : goal.returns-clause-outs
 returns-clause-outs c = ask-counted (question.Status c.args.name.now) c.args.desk.now c.step-called.new.self c.status.ensures.form c.step-called.ensures.said
-    c.step-called.ensures.asked c.args.outs.now (λ s. length (outgoing_in (list_asked s (question.Status c.args.name.now)))) c.told_count.ensures.count
+    c.step-called.ensures.asked c.args.outs.now (λ s. length (outgoing_in (list_asked s (question.Status c.args.name.now)))) c.give_count.ensures.count
     (open-list (question.Status c.args.name.now) c.args.desk.now c.step-called.new.self c.status.ensures.form c.step-called.ensures.said
     c.step-called.ensures.asked (ap Some c.deref.ensures ∙ c.in-Some.ensures.taken) c.records-counts.ensures.outs)
 
 pub returns-clause-ins : goal.returns-clause-ins
 returns-clause-ins c = ask-counted (question.Status c.args.name.now) c.args.desk.now c.step-called.new.self c.status.ensures.form c.step-called.ensures.said
-    c.step-called.ensures.asked c.args.ins.now (λ s. length (incoming_in (list_asked s (question.Status c.args.name.now)))) c.told_count-2.ensures.count
+    c.step-called.ensures.asked c.args.ins.now (λ s. length (incoming_in (list_asked s (question.Status c.args.name.now)))) c.give_count-2.ensures.count
     (open-list (question.Status c.args.name.now) c.args.desk.now c.step-called.new.self c.status.ensures.form c.step-called.ensures.said
     c.step-called.ensures.asked (ap Some c.deref.ensures ∙ c.in-Some.ensures.taken) c.records-counts.ensures.ins)
 
 pub returns-clause-handle : goal.returns-clause-handle
 returns-clause-handle c = ask-told (question.Status c.args.name.now) c.args.desk.now c.step-called.new.self c.status.ensures.form c.step-called.ensures.said
-    c.step-called.ensures.asked (λ said. number_or said c.args.handle.now) c.told.ensures.number
+    c.step-called.ensures.asked (λ said. number_or said c.args.handle.now) c.give_number.ensures.number

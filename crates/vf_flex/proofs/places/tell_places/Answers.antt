@@ -1,5 +1,5 @@
 use Rattle.std.proofs.Common.{arith}
-use Rattle.rh_flex.specs.Slots.{lent_slot_in}
+use Rattle.rh_lent_slot.specs.Slots.{lent_slot_in}
 use Rattle.vf_flex.proofs.PlaceLaws.{none-told, told-more}
 use Rattle.vf_flex.proofs.places.tell_places.Goals as goal
 

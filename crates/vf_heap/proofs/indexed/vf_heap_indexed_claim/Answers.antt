@@ -8,7 +8,7 @@ use Rattle.vf_heap.proofs.Maps.{stays}
 use Rattle.vf_heap.proofs.indexed.vf_heap_indexed_claim.Goals as goal
 
 pub returns-in-Ok-clause-refused : goal.returns-in-Ok-clause-refused
-returns-in-Ok-clause-refused c = stays _ _ _ _ c.claim.ensures.same c.told.ensures.status
+returns-in-Ok-clause-refused c = stays _ _ _ _ c.claim.ensures.same c.give_number.ensures.status
 
 pub returns-in-Err-clause-status : goal.returns-in-Err-clause-status
 returns-in-Err-clause-status c =

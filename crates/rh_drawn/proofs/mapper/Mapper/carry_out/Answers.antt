@@ -4,14 +4,14 @@ use Rattle.rh_drawn.proofs.StepLemmas.{command-text, hidden-command, rest-as, to
 use Rattle.rh_drawn.proofs.Walks.{offered_as}
 use Rattle.rh_drawn.proofs.mapper.Mapper.carry_out.Goals as goal
 
-pub returns-then-holds_unless-clause-told : goal.returns-then-holds_unless-clause-told
-returns-then-holds_unless-clause-told g c =
+pub returns-then-and_not-clause-told : goal.returns-then-and_not-clause-told
+returns-then-and_not-clause-told g c =
     let desk = g.D.Sight.desk in
     let b = c.begin_step-wanted.new.self in
     let e = c.change.ensures.rest in
     hidden-command desk c.args.self.now b c.args.line.now (g.P.Pen.offered c.args.pen.now) c.begin_step-wanted.result c.begin_step-wanted.ensures.wanted
     c.begin_step-wanted.ensures.next
-    c.args.command.now _ _ (sym c.holds_unless.ensures ∙ c.if-holds_unless.true) c.change.ensures.desk
+    c.args.command.now _ _ (sym c.and_not.ensures ∙ c.if-and_not.true) c.change.ensures.desk
     (rest-as {b = b} (record b { drawn = c.change.new.self.drawn }) e) (is_shared (desk c.change.new.self.drawn) c.spelled.ensures)
 
 pub returns : goal.returns
@@ -25,7 +25,7 @@ returns g c =
     let was = c.begin_step-wanted.ensures.wanted in
     let next = c.begin_step-wanted.ensures.next in
     let s = share_in c.show.new.self.pages.items (desk a.drawn) in
-    let test = sym c.holds_unless.ensures ∙ c.if-holds_unless.false in
+    let test = sym c.and_not.ensures ∙ c.if-and_not.false in
     let text = command-text desk m b c.args.line.now o w was next c.args.command.now s a _ _ test c.answer-reply.ensures.desk c.answer-reply.ensures.reply
     c.new-kept.ensures refl in
     record {

@@ -4,14 +4,14 @@ use Rattle.rh_drawn.proofs.StepLemmas.{fault-from, fault-text, hidden-fault, tol
 use Rattle.rh_drawn.proofs.Walks.{offered_as}
 use Rattle.rh_drawn.proofs.mapper.Mapper.refuse.Goals as goal
 
-pub returns-then-holds_unless-clause-told : goal.returns-then-holds_unless-clause-told
-returns-then-holds_unless-clause-told g c =
+pub returns-then-and_not-clause-told : goal.returns-then-and_not-clause-told
+returns-then-and_not-clause-told g c =
     let desk = g.D.Sight.desk in
     let m = record c.args.self.now { has_bad_line = true } in
     let b = c.begin_step-wanted.new.self in
     fault-from (hidden-fault desk m b c.args.line.now (g.P.Pen.offered c.args.pen.now) c.begin_step-wanted.result c.begin_step-wanted.ensures.wanted
     c.begin_step-wanted.ensures.next
-    c.args.fault.now _ _ (sym c.holds_unless.ensures ∙ c.if-holds_unless.true) refl refl refl refl
+    c.args.fault.now _ _ (sym c.and_not.ensures ∙ c.if-and_not.true) refl refl refl refl
     (ap (λ (z : Mapper g.row.D.Denot). z.has_bad_line) c.begin_step-wanted.ensures.next) (is_shared (desk b.drawn) c.spelled.ensures))
 
 pub returns : goal.returns
@@ -24,7 +24,7 @@ returns g c =
     let was = c.begin_step-wanted.ensures.wanted in
     let next = c.begin_step-wanted.ensures.next in
     let s = share_in c.show.new.self.pages.items (desk b.drawn) in
-    let test = sym c.holds_unless.ensures ∙ c.if-holds_unless.false in
+    let test = sym c.and_not.ensures ∙ c.if-and_not.false in
     let text = fault-text desk m b c.args.line.now o w was next c.args.fault.now s b c.new-kept.result test refl c.new-kept.ensures refl in
     record {
       told = fault-from (told-fault desk m b c.args.line.now o w was next _ _ _ s c.show.ensures.same c.show.ensures.shared c.args.fault.now refl refl refl refl

@@ -1,6 +1,6 @@
 use Rattle.rh_drawn.proofs.Common.{◌∙◌, List, ℕ, ap, ap₂, subst, sym, ◌&&◌, not, scene_of, shown_lines, share_in, Excerpts}
 use Rattle.rh_figure.specs.Map.{step_lines}
-use Rattle.rh_sight.specs.Steps.{marks_seen}
+use Rattle.rh_scene.specs.Steps.{marks_seen}
 use Rattle.rh_drawn.proofs.Walks.{offered_as}
 use Rattle.rh_drawn.proofs.mapper.Mapper.show.Goals as goal
 
@@ -15,5 +15,5 @@ returns-clause-text g c = λ text excerpt.
     let scene = ap₂ (λ pages kept. scene_of d (share_in pages d) kept (marks_seen step.marks)) is.pages is.kept
     ∙ ap (scene_of d (share_in c.page_list.new.list.items d) deed.kept.now) is.marks in
     offered_as _ (ap₂ (λ still x. shown_lines (step_lines still m.steps c.args.line.now text x))
-    (c.holds_unless.ensures ∙ ap (λ z. z && not deed.wanted) c.is_still.ensures) scene)
+    (c.and_not.ensures ∙ ap (λ z. z && not deed.wanted) c.is_still.ensures) scene)
     (c.print_step.ensures text (subst P (sym c.as_slice.ensures) excerpt))

@@ -14,19 +14,19 @@ pop-k-requires g c = record { list = omega arith; long = c.args.self.now.long; s
 pub overflow_mul-k : goal.overflow_mul-k
 unfolding paged_memory
 overflow_mul-k g c =
-    let s = c.args.self.now in let free = free_in (lists_of (g.G.Ground.numbers s.site) c.pop-k.new.self) in
+    let s = c.args.self.now in let free = free_in (lists_of (g.G.Backing.numbers s.site) c.pop-k.new.self) in
     let a = page_free (region_of s) (pages_of s) s.opened (free_of s) s.table.room MAX_AREAS s.kept c.args.id.0 c.requires.opened free c.pop-k.result
     c.pop-k.ensures.last in let b = s.few in omega arith
 
 pub zero-requires : goal.zero-requires
 zero-requires g c =
     let s = c.args.self.now in
-    free_within s c.args.id.0 c.pop-k.result (free_in (lists_of (g.G.Ground.numbers s.site) c.pop-k.new.self)) c.requires.opened c.pop-k.ensures.last
+    free_within s c.args.id.0 c.pop-k.result (free_in (lists_of (g.G.Backing.numbers s.site) c.pop-k.new.self)) c.requires.opened c.pop-k.ensures.last
 
 pub push-requires : goal.push-requires
 unfolding paged_memory
 push-requires g c =
-    let s = c.args.self.now in let id = c.args.id.0 in let numbers = g.G.Ground.numbers s.site in let mid = lists_of numbers c.pop-k.new.self in
+    let s = c.args.self.now in let id = c.args.id.0 in let numbers = g.G.Backing.numbers s.site in let mid = lists_of numbers c.pop-k.new.self in
     let same = ap length (same_area (table_of s) mid (set mid id (list_at mid id ++ c.pop-k.result ∷ [])) MAX_AREAS id c.pop-k.result
     (paged_numbered_law s id c.requires.opened) c.pop-k.ensures.lists refl) in
     let room = room_left (region_of s) (pages_of s) s.opened (free_of s) s.table.room MAX_AREAS s.kept id c.requires.opened in
@@ -40,7 +40,7 @@ push-requires g c =
 
 pub invariant_of-self : goal.invariant_of-self
 invariant_of-self g c =
-    let s = c.args.self.now in let id = c.args.id.0 in let numbers = g.G.Ground.numbers s.site in let k = c.pop-k.result in
+    let s = c.args.self.now in let id = c.args.id.0 in let numbers = g.G.Backing.numbers s.site in let k = c.pop-k.result in
     let mid = lists_of numbers c.pop-k.new.self in
     let on = c.push.ensures.lists
     ∙ ap (λ (l : List ℕ). set (lists_of l c.pop-k.new.self) id (list_at (lists_of l c.pop-k.new.self) id ++ k ∷ [])) c.zero.ensures.numbers in
@@ -57,7 +57,7 @@ invariant_of-self g c =
 pub returns : goal.returns
 unfolding paged_memory
 returns g c =
-    let s = c.args.self.now in let id = c.args.id.0 in let numbers = g.G.Ground.numbers s.site in let k = c.pop-k.result in
+    let s = c.args.self.now in let id = c.args.id.0 in let numbers = g.G.Backing.numbers s.site in let k = c.pop-k.result in
     let mid = lists_of numbers c.pop-k.new.self in
     let on = c.push.ensures.lists
     ∙ ap (λ (l : List ℕ). set (lists_of l c.pop-k.new.self) id (list_at (lists_of l c.pop-k.new.self) id ++ k ∷ [])) c.zero.ensures.numbers in

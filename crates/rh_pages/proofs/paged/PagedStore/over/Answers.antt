@@ -12,7 +12,7 @@ push-requires-clause-room g c =
 
 pub loop-k-preserved : goal.loop-k-preserved
 loop-k-preserved g c =
-    let so_far = c.loop-k.invariant in let was = lists_of (g.G.Ground.numbers c.loop-k.site) c.loop-k.table in
+    let so_far = c.loop-k.invariant in let was = lists_of (g.G.Backing.numbers c.loop-k.site) c.loop-k.table in
     let x = list_at was MAX_AREAS ++ c.loop-k.k ∷ [] in
     let more : suc c.loop-k.k ≡ c.loop-k.k + 1 = omega arith in
     record {
@@ -23,25 +23,25 @@ loop-k-preserved g c =
       areas = ap areas_in c.push.ensures.lists ∙ take-set-le MAX_AREAS was MAX_AREAS x (omega arith) ∙ so_far.areas;
       free =
           ap free_in c.push.ensures.lists
-          ∙ get_or-set_same was MAX_AREAS x [] (omega (arith, length_lists (g.G.Ground.numbers c.loop-k.site) c.loop-k.table))
+          ∙ get_or-set_same was MAX_AREAS x [] (omega (arith, length_lists (g.G.Backing.numbers c.loop-k.site) c.loop-k.table))
           ∙ ap (λ l. l ++ c.loop-k.k ∷ []) so_far.free ∙ ap first more;
     }
 
 pub invariant_of-result : goal.invariant_of-result
 invariant_of-result g c =
-    let so_far = c.loop-k.invariant in let t = c.loop-k.table in let lists = lists_of (g.G.Ground.numbers c.loop-k.site) t in
+    let so_far = c.loop-k.invariant in let t = c.loop-k.table in let lists = lists_of (g.G.Backing.numbers c.loop-k.site) t in
     let out : c.loop-k.k ≡ t.room = omega (arith, so_far.count, so_far.room, c.loop-k-test.false) in
     record {
       few = omega (arith, so_far.room, c.requires.most);
       long = omega (arith, so_far.long, ap (λ n. LISTS * n) so_far.room, c.requires.numbers);
-      kept = fresh_kept (g.G.Ground.bytes c.loop-k.site) (areas_in lists) _ (free_in lists) t.room MAX_AREAS so_far.areas refl (so_far.free ∙ ap first out)
+      kept = fresh_kept (g.G.Backing.bytes c.loop-k.site) (areas_in lists) _ (free_in lists) t.room MAX_AREAS so_far.areas refl (so_far.free ∙ ap first out)
           (omega (arith, ap length so_far.bytes, so_far.room, c.requires.size));
     }
 
 pub returns : goal.returns
 unfolding paged_memory
 returns g c =
-    let so_far = c.loop-k.invariant in let t = c.loop-k.table in let lists = lists_of (g.G.Ground.numbers c.loop-k.site) t in
+    let so_far = c.loop-k.invariant in let t = c.loop-k.table in let lists = lists_of (g.G.Backing.numbers c.loop-k.site) t in
     let out : c.loop-k.k ≡ t.room = omega (arith, so_far.count, so_far.room, c.loop-k-test.false) in
-    fresh_memory (g.G.Ground.bytes c.loop-k.site) (areas_in lists) _ (free_in lists) t.room MAX_AREAS so_far.areas refl (so_far.free ∙ ap first out)
+    fresh_memory (g.G.Backing.bytes c.loop-k.site) (areas_in lists) _ (free_in lists) t.room MAX_AREAS so_far.areas refl (so_far.free ∙ ap first out)
     ∙ ap fresh so_far.room

@@ -6,8 +6,8 @@ abbrev pub invariant-loop-k : goal.invariant-loop-k
 invariant-loop-k g l = record {
   count : l.k ≤ l.pages;
   room : l.table.room ≡ l.pages;
-  bytes : g.G.Ground.bytes l.site ≡ g.G.Ground.bytes l.initial.site;
-  long : length (g.G.Ground.numbers l.site) ≡ length (g.G.Ground.numbers l.initial.site);
-  areas : areas_in (lists_of (g.G.Ground.numbers l.site) l.table) ≡ replicate MAX_AREAS [];
-  free : free_in (lists_of (g.G.Ground.numbers l.site) l.table) ≡ first l.k;
+  bytes : g.G.Backing.bytes l.site ≡ g.G.Backing.bytes l.initial.site;
+  long : length (g.G.Backing.numbers l.site) ≡ length (g.G.Backing.numbers l.initial.site);
+  areas : areas_in (lists_of (g.G.Backing.numbers l.site) l.table) ≡ replicate MAX_AREAS [];
+  free : free_in (lists_of (g.G.Backing.numbers l.site) l.table) ≡ first l.k;
 }

@@ -15,7 +15,7 @@ pop-k-requires g c =
 pub push-requires : goal.push-requires
 unfolding paged_memory
 push-requires g c =
-    let s = c.args.self.now in let id = c.args.id.0 in let numbers = g.G.Ground.numbers s.site in let k = c.pop-k.result in
+    let s = c.args.self.now in let id = c.args.id.0 in let numbers = g.G.Backing.numbers s.site in let k = c.pop-k.result in
     let mid = lists_of numbers c.pop-k.new.self in
     let same = ap length (same_free (table_of s) mid (set mid MAX_AREAS (list_at mid MAX_AREAS ++ k ∷ [])) MAX_AREAS id k
     (paged_numbered_law s id c.requires.opened) c.pop-k.ensures.lists refl) in
@@ -29,7 +29,7 @@ push-requires g c =
 
 pub invariant_of-self : goal.invariant_of-self
 invariant_of-self g c =
-    let s = c.args.self.now in let id = c.args.id.0 in let numbers = g.G.Ground.numbers s.site in let k = c.pop-k.result in
+    let s = c.args.self.now in let id = c.args.id.0 in let numbers = g.G.Backing.numbers s.site in let k = c.pop-k.result in
     let mid = lists_of numbers c.pop-k.new.self in
     let room = c.push.ensures.room ∙ c.pop-k.ensures.room in let last = sym (list_read s id c.requires.opened) ∙ c.pop-k.ensures.last in
     record {
@@ -42,7 +42,7 @@ invariant_of-self g c =
 pub returns : goal.returns
 unfolding paged_memory
 returns g c =
-    let s = c.args.self.now in let id = c.args.id.0 in let numbers = g.G.Ground.numbers s.site in let k = c.pop-k.result in
+    let s = c.args.self.now in let id = c.args.id.0 in let numbers = g.G.Backing.numbers s.site in let k = c.pop-k.result in
     let mid = lists_of numbers c.pop-k.new.self in
     let room = c.push.ensures.room ∙ c.pop-k.ensures.room in let last = sym (list_read s id c.requires.opened) ∙ c.pop-k.ensures.last in
     shrunk_is_memory s id k _ mid _ c.requires.opened room last c.pop-k.ensures.lists c.push.ensures.lists

@@ -4,13 +4,13 @@ use Rattle.rh_pages.proofs.table.PageTable.push.Goals as goal
 
 pub set_number-requires : goal.set_number-requires
 set_number-requires g c =
-    let t = c.args.self.now in let numbers = g.G.Ground.numbers c.args.site.now in let q = c.requires in
+    let t = c.args.self.now in let numbers = g.G.Backing.numbers c.args.site.now in let q = c.requires in
     let n = length_there numbers t c.args.to q.list q.long in
     end_in_row numbers t c.args.to q.list q.long (omega (arith, q.room))
 
 pub invariant_of-self : goal.invariant_of-self
 invariant_of-self g c =
-    let t = c.args.self.now in let numbers = g.G.Ground.numbers c.args.site.now in let q = c.requires in
+    let t = c.args.self.now in let numbers = g.G.Backing.numbers c.args.site.now in let q = c.requires in
     let n = length_there numbers t c.args.to q.list q.long in
     record {
       few = t.few;
@@ -21,7 +21,7 @@ invariant_of-self g c =
 pub returns-clause-lists : goal.returns-clause-lists
 unfolding lists_of
 returns-clause-lists g c =
-    let t = c.args.self.now in let numbers = g.G.Ground.numbers c.args.site.now in let q = c.requires in
+    let t = c.args.self.now in let numbers = g.G.Backing.numbers c.args.site.now in let q = c.requires in
     let n = length_there numbers t c.args.to q.list q.long in
     ap (λ l. table_rows l t.room (set t.lengths c.args.to (get_or t.lengths c.args.to 0 + 1))) c.set_number.ensures.after
     ∙ pushed numbers t c.args.to q.list q.long c.args.number (omega (arith, q.room))

@@ -1,7 +1,7 @@
 use Rattle.rh_painted.proofs.Common.{◌∙◌, List, ℕ, ap, ap₂, refl, subst, sym, ◌&&◌, not, offered_as, scene_of, step_text, scene_at}
 use Rattle.rh_drawn.specs.DrawnReplies.{Excerpts}
-use Rattle.rh_sight.specs.SightPages.{share_in}
-use Rattle.rh_sight.specs.Steps.{marks_seen}
+use Rattle.rh_scene.specs.SightPages.{share_in}
+use Rattle.rh_scene.specs.Steps.{marks_seen}
 use Rattle.rh_painted.specs.PaintedProgress.{stand_shown}
 use Rattle.rh_drawn.proofs.TextPuts.{text_then}
 use Rattle.rh_painted.proofs.painter.Painter.show.Goals as goal
@@ -14,11 +14,11 @@ returns-clause-text g c = λ text excerpt.
     let deed = c.args.deed in
     let step = c.step_of-step.result in
     let is = c.step_of-step.ensures in
-    let still = c.holds_unless.ensures ∙ ap (λ z. z && not deed.wanted) c.is_still.ensures in
+    let still = c.and_not.ensures ∙ ap (λ z. z && not deed.wanted) c.is_still.ensures in
     let P : List ℕ → Type 0 = λ z. Excerpts z deed.count text in
     let scene = ap₂ (λ pages kept. scene_of d (share_in pages d) kept (marks_seen step.marks)) is.pages is.kept
     ∙ ap (scene_of d (share_in c.page_list.new.list.items d) deed.kept.now) is.marks in
-    let words = ap₂ (λ n last. step_text c.holds_unless.result n c.args.line.now text (scene_at d step) m.notes.items last) c.steps.ensures c.last.ensures
+    let words = ap₂ (λ n last. step_text c.and_not.result n c.args.line.now text (scene_at d step) m.notes.items last) c.steps.ensures c.last.ensures
     ∙ ap₂ (λ b x. step_text b m.progress.steps c.args.line.now text x m.notes.items m.progress.last) still scene in
     record {
       share = share_in c.page_list.new.list.items d;

@@ -1,6 +1,6 @@
 use Rattle.std.proofs.Common.{◌≤◌, ap, arith, length, refl, subst, ◌∙◌}
-use Rattle.rh_sight.specs.Seen.{SeesFree}
-use Rattle.rh_sight.specs.declared.sight.HeapOf.{HeapOf}
+use Rattle.rh_scene.specs.Seen.{SeesFree}
+use Rattle.rh_scene.specs.declared.sight.HeapOf.{HeapOf}
 use Rattle.rh_run.proofs.TaskLaws.{as-granted, block-room, block-same, heap-there, in-heap, in-module, module-seen, module-there, task-seen, there}
 use Rattle.rh_run.proofs.sight.ScriptWorldSight.read_heap.Goals as goal
 

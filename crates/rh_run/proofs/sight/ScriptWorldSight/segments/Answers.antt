@@ -2,9 +2,9 @@ use Rattle.std.proofs.Common.{ap, refl, ◌∙◌, ◌≡◌, Some}
 use Rattle.std.specs.Option.{option_map}
 use Rattle.rh_defs.specs.Desk.{Task, module_start}
 use Rattle.rh_defs.specs.Slot.{heap_start}
-use Rattle.rh_sight.specs.Seen.{heap_seen}
-use Rattle.rh_sight.specs.declared.sight.HeapOf.TheVariants as heap_of
-use Rattle.rh_sight.proofs.Heaps.{seen}
+use Rattle.rh_scene.specs.Seen.{heap_seen}
+use Rattle.rh_scene.specs.declared.sight.HeapOf.TheVariants as heap_of
+use Rattle.rh_scene.proofs.Heaps.{seen}
 use Rattle.rh_tasks.specs.WorldLists.{segment_items_at}
 use Rattle.rh_run.proofs.TaskLaws.{granted-if, granted-none, items-from, segments-there, there}
 use Rattle.rh_run.proofs.sight.ScriptWorldSight.segments.Goals as goal

@@ -17,7 +17,7 @@ pub told-requires : goal.told-requires
 told-requires g c = ask-ranged _ (rw c.in-Ask.is at c.requires.ranged)
 
 pub returns-in-Ask : goal.returns-in-Ask
-returns-in-Ask g c = rw (c.in-Ask.is) (asked c.in-Ask.question _ _ _ _ refl (told-gives _ c.args.self.now _ _ c.told.ensures c.answered.ensures)
+returns-in-Ask g c = rw (c.in-Ask.is) (asked c.in-Ask.question _ _ _ _ refl (told-gives _ c.args.self.now _ _ c.answer_question.ensures c.answered.ensures)
     c.answer.ensures)
 
 pub returns-in-CancelIn : goal.returns-in-CancelIn

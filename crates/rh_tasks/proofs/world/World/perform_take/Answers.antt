@@ -44,4 +44,4 @@ pub returns-in-Release : goal.returns-in-Release
 unfolding perform_take take_with
 returns-in-Release g c =
     let ended = rw c.in-Release.is at c.end_failed.ensures in
-    rw (c.in-Some.is, c.in-Release.is) (λ t at. (c.told.ensures, same-alike (sym (ended t at))))
+    rw (c.in-Some.is, c.in-Release.is) (λ t at. (c.outcome_of.ensures, same-alike (sym (ended t at))))

@@ -2,13 +2,13 @@ use Rattle.rh_wimp.proofs.Common.{ℕ, ◌+◌, ◌≤◌, length, List, ap, sub
 use Rattle.rh_wimp.proofs.Common.{module_heap_in}
 use Rattle.rh_wimp.proofs.Common.{Lifted, SpellsPostIn, entry_at, ended_from, queue_to}
 use Rattle.rh_defs.proofs.MemoryLaws.{OnlyArea-self}
-use Rattle.rh_wimp.specs.Inner.LooseMessages.{LiftsFirst}
+use Rattle.rh_wimp.specs.Inner.LooseMessages.{TakesFirst}
 use Rattle.rh_wimp.proofs.DeathLaws.{seats-ended}
 use Rattle.rh_wimp.proofs.EndLaws.{drained-end, drained-start, drained-step, place-stays}
 use Rattle.rh_wimp.proofs.PostLaws.{seat_at}
 use Rattle.rh_wimp.proofs.TakeLaws.{rest_of}
 use Rattle.rh_wimp.proofs.queue.Queue.end_chain.Goals as goal
-use Rattle.rh_wimp.proofs.queue.Queue.end_chain.Goals.{After-lift_first, In-Some}
+use Rattle.rh_wimp.proofs.queue.Queue.end_chain.Goals.{After-take_first, In-Some}
 use Rattle.rh_wimp.proofs.queue.Queue.end_chain.Given as given
 
 pub loop-turn-init : goal.loop-turn-init
@@ -22,46 +22,46 @@ loop-turn-init g c =
       drains = λ post s. drained-start m c.args.module_area c.args.self.now post c.args.dying s;
     }
 
-pub lift_first-requires-clause-module : goal.lift_first-requires-clause-module
-lift_first-requires-clause-module g c = c.loop-turn.invariant.still
+pub take_first-requires-clause-module : goal.take_first-requires-clause-module
+take_first-requires-clause-module g c = c.loop-turn.invariant.still
 
-pub lift_first-requires-clause-within : goal.lift_first-requires-clause-within
-lift_first-requires-clause-within g c = c.loop-turn.invariant.within
+pub take_first-requires-clause-within : goal.take_first-requires-clause-within
+take_first-requires-clause-within g c = c.loop-turn.invariant.within
 
-pub lift_first-requires-clause-post : goal.lift_first-requires-clause-post
-lift_first-requires-clause-post g c = let d = c.loop-turn.invariant.drains c.requires.post.0 c.requires.post.1 in (d.0, d.1.spells)
+pub take_first-requires-clause-post : goal.take_first-requires-clause-post
+take_first-requires-clause-post g c = let d = c.loop-turn.invariant.drains c.requires.post.0 c.requires.post.1 in (d.0, d.1.spells)
 
 -- what the call took off
-lifts : (g : given.Over) (c : After-lift_first g) (now : Post) → SpellsPostIn (g.S.Words.memory c.loop-turn.store) c.args.module_area c.loop-turn.self now
-    → LiftsFirst (g.S.Words.memory c.lift_first.new.store) c.args.module_area c.lift_first.new.self now c.args.dying c.lift_first.result
+lifts : (g : given.Over) (c : After-take_first g) (now : Post) → SpellsPostIn (g.S.Words.memory c.loop-turn.store) c.args.module_area c.loop-turn.self now
+    → TakesFirst (g.S.Words.memory c.take_first.new.store) c.args.module_area c.take_first.new.self now c.args.dying c.take_first.result
 lifts g c now s =
-    subst (λ y. LiftsFirst (g.S.Words.memory c.lift_first.new.store) c.args.module_area c.lift_first.new.self now y c.lift_first.result)
+    subst (λ y. TakesFirst (g.S.Words.memory c.take_first.new.store) c.args.module_area c.take_first.new.self now y c.take_first.result)
     c.loop-turn.invariant.handle
-    (c.lift_first.ensures.lifts now s)
+    (c.take_first.ensures.lifts now s)
 
 pub returns-in_default-clause-drains : goal.returns-in_default-clause-drains
 returns-in_default-clause-drains g c = λ post s.
-    let o = (goal.at.returns-in_default-clause-drains g c).After-lift_first in
+    let o = (goal.at.returns-in_default-clause-drains g c).After-take_first in
     let m = g.S.Words.memory c.loop-turn.store in
-    let n = g.S.Words.memory c.lift_first.new.store in
+    let n = g.S.Words.memory c.take_first.new.store in
     let d = c.loop-turn.invariant.drains post s in
-    let w : LiftsFirst n c.args.module_area c.lift_first.new.self d.0 c.args.dying None =
-    subst (λ (r : Option ℕ). LiftsFirst n c.args.module_area c.lift_first.new.self d.0 c.args.dying r) c.in_default.is (lifts g o d.0 d.1.spells) in
-    drained-end m n c.args.module_area c.loop-turn.self c.lift_first.new.self post d.0 c.args.dying c.loop-turn._turn d.1 w
+    let w : TakesFirst n c.args.module_area c.take_first.new.self d.0 c.args.dying None =
+    subst (λ (r : Option ℕ). TakesFirst n c.args.module_area c.take_first.new.self d.0 c.args.dying r) c.in_default.is (lifts g o d.0 d.1.spells) in
+    drained-end m n c.args.module_area c.loop-turn.self c.take_first.new.self post d.0 c.args.dying c.loop-turn._turn d.1 w
 
 pub returns-in_default-clause-only : goal.returns-in_default-clause-only
 returns-in_default-clause-only g c =
-    OnlyArea-both (g.S.Words.memory c.args.store.now) (g.S.Words.memory c.loop-turn.store) (g.S.Words.memory c.lift_first.new.store) c.args.module_area.area.0
-    c.loop-turn.invariant.only c.lift_first.ensures.only
+    OnlyArea-both (g.S.Words.memory c.args.store.now) (g.S.Words.memory c.loop-turn.store) (g.S.Words.memory c.take_first.new.store) c.args.module_area.area.0
+    c.loop-turn.invariant.only c.take_first.ensures.only
 
 -- the message that was taken off
 first : (g : given.Over) (c : In-Some g) (now : Post) → SpellsPostIn (g.S.Words.memory c.loop-turn.store) c.args.module_area c.loop-turn.self now
-    → (t : Parcel × List Parcel) × Lifted (g.S.Words.memory c.lift_first.new.store) c.args.module_area c.lift_first.new.self now c.args.dying c.in-Some.block t
+    → (t : Parcel × List Parcel) × Lifted (g.S.Words.memory c.take_first.new.store) c.args.module_area c.take_first.new.self now c.args.dying c.in-Some.block t
 first g c now s =
-    let w : LiftsFirst (g.S.Words.memory c.lift_first.new.store) c.args.module_area c.lift_first.new.self now
+    let w : TakesFirst (g.S.Words.memory c.take_first.new.store) c.args.module_area c.take_first.new.self now
     (entry_at c.loop-turn.self.entries c.args.at).handle
     (Some c.in-Some.block) = c.in-Some.ensures.lifts now s in
-    subst (λ y. LiftsFirst (g.S.Words.memory c.lift_first.new.store) c.args.module_area c.lift_first.new.self now y (Some c.in-Some.block))
+    subst (λ y. TakesFirst (g.S.Words.memory c.take_first.new.store) c.args.module_area c.take_first.new.self now y (Some c.in-Some.block))
     c.loop-turn.invariant.handle w
 
 pub end_message-requires-clause-loose : goal.end_message-requires-clause-loose
@@ -76,7 +76,7 @@ loop-turn-preserved g c =
     let o = (goal.at.loop-turn-preserved g c).In-Some in
     let a = g.S.Words.memory c.args.store.now in
     let m = g.S.Words.memory c.loop-turn.store in
-    let n = g.S.Words.memory c.lift_first.new.store in
+    let n = g.S.Words.memory c.take_first.new.store in
     let k = g.S.Words.memory c.end_message.new.store in
     let i = c.loop-turn.invariant in
     let x : ℕ = c.args.dying in
@@ -90,13 +90,13 @@ loop-turn-preserved g c =
     record {
       still = c.end_message.ensures.module;
       only = OnlyArea-both a m k c.args.module_area.area.0 i.only
-          (OnlyArea-both m n k c.args.module_area.area.0 c.lift_first.ensures.only c.end_message.ensures.only);
+          (OnlyArea-both m n k c.args.module_area.area.0 c.take_first.ensures.only c.end_message.ensures.only);
       within = t.within;
       handle = t.handle ∙ i.handle;
       drains = λ post s.
           let f = i.drains post s in
           let v = first g o f.0 f.1.spells in
-          drained-step m n k c.args.module_area c.loop-turn.self c.lift_first.new.self c.end_message.new.self post f.0 x c.loop-turn._turn c.in-Some.block v.0
+          drained-step m n k c.args.module_area c.loop-turn.self c.take_first.new.self c.end_message.new.self post f.0 x c.loop-turn._turn c.in-Some.block v.0
           f.1
           v.1 (c.end_message.ensures.spells (rest_of v.0.1 f.0) v.0.0 v.1.may);
     }

@@ -9,18 +9,18 @@ use Rattle.rh_wimp.proofs.queue.Queue.take.Given as given
 
 -- the first message, which belongs to no row now
 first : (g : given.Over) (c : In-Some g) (post : Post) → SpellsPostIn (g.S.Words.memory c.args.store.now) c.args.module_area c.args.self.now post
-    → (t : Parcel × List Parcel) × Lifted (g.S.Words.memory c.lift_first.new.store) c.args.module_area c.lift_first.new.self post
+    → (t : Parcel × List Parcel) × Lifted (g.S.Words.memory c.take_first.new.store) c.args.module_area c.take_first.new.self post
     (entry_at c.args.self.now.entries c.args.at).handle c.in-Some.block t
 first g c post s = c.in-Some.ensures.lifts post s
 
 lies : (g : given.Over) (c : In-Some g) (post : Post) (s : SpellsPostIn (g.S.Words.memory c.args.store.now) c.args.module_area c.args.self.now post)
-    → LiesAt (g.S.Words.memory c.lift_first.new.store) c.args.module_area c.in-Some.block (first g c post s).0.0
+    → LiesAt (g.S.Words.memory c.take_first.new.store) c.args.module_area c.in-Some.block (first g c post s).0.0
 lies g c post s = let w = (first g c post s).1.may in record { lies = w.loose.lies; block_is = w.block_is }
 
 pub free-requires : goal.free-requires
 free-requires g c =
     let o = (goal.at.free-requires g c).In-Some in
-    let n = g.S.Words.memory c.lift_first.new.store in
+    let n = g.S.Words.memory c.take_first.new.store in
     record {
       «module» = c.in-Some.ensures.module;
       block = has-less c.in-Some.block 24 4 (module_heap_in n c.args.module_area) (omega arith)
@@ -31,9 +31,9 @@ pub returns-clause-spells : goal.returns-clause-spells
 returns-clause-spells g c = λ post s none.
     let o = (goal.at.returns-clause-spells g c).In-Some in
     let m = g.S.Words.memory c.args.store.now in
-    let n = g.S.Words.memory c.lift_first.new.store in
+    let n = g.S.Words.memory c.take_first.new.store in
     let x : ℕ = (entry_at c.args.self.now.entries c.args.at).handle in
-    let q = c.lift_first.new.self in
+    let q = c.take_first.new.self in
     let w = first g o post s in
     let code = c.read_code-code.ensures w.0.0 (lies g o post s) in
     elim c.if-is_recorded.branch [

@@ -7,10 +7,10 @@ len-requires g c = area_below c.args.self.now c.args.id.0 c.requires
 
 pub overflow_mul-result : goal.overflow_mul-result
 overflow_mul-result g c =
-    let s = c.args.self.now in let is = c.len.ensures (g.G.Ground.numbers s.site) s.long in
+    let s = c.args.self.now in let is = c.len.ensures (g.G.Backing.numbers s.site) s.long in
     let long = table_long s c.args.id.0 c.requires in let small = paged_small_law s c.args.id.0 in omega arith
 
 pub returns : goal.returns
 returns g c =
-    let s = c.args.self.now in let is = c.len.ensures (g.G.Ground.numbers s.site) s.long in
+    let s = c.args.self.now in let is = c.len.ensures (g.G.Backing.numbers s.site) s.long in
     let long = table_long s c.args.id.0 c.requires in omega arith

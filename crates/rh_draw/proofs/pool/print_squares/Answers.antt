@@ -1,9 +1,0 @@
-use Rattle.rh_map.proofs.SeamLemmas.{some-left}
-use Rattle.rh_draw.proofs.ListLemmas.{squares-some}
-use Rattle.rh_draw.proofs.WriteLemmas.{offered_as}
-use Rattle.rh_draw.proofs.pool.print_squares.Goals as goal
-
-pub returns : goal.returns
-returns g c =
-    offered_as _ (squares-some _ _ _ (some-left _ c.is_empty.result c.is_empty.ensures c.if-is_empty.false))
-    c.print_some_squares.ensures

@@ -1,6 +1,0 @@
-use Rattle.std.proofs.Common.{sym}
-use Rattle.rh_flex.proofs.Over.{shown_length}
-use Rattle.rh_flex.proofs.pages.LentPagesWords.len.Goals as goal
-
-pub returns : goal.returns
-returns c = sym (shown_length c.args.self.now c.args._id.0 c.requires)

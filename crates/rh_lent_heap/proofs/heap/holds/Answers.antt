@@ -1,0 +1,11 @@
+use Rattle.rh_lent_heap.proofs.Common.{bytes, area_set, memory_shown, memory_over}
+use Rattle.rh_lent_heap.proofs.HeapBytes.{is_span}
+use Rattle.rh_lent_heap.proofs.heap.holds.Goals as goal
+
+pub holds-requires : goal.holds-requires
+unfolding memory_shown
+holds-requires c = is_span c.args.memory.now _ c.requires
+
+pub returns : goal.returns
+unfolding memory_shown memory_over bytes area_set
+returns c = c.holds.ensures

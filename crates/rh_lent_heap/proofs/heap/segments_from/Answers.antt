@@ -1,0 +1,11 @@
+use Rattle.rh_lent_heap.proofs.Common.{bytes, area_set, memory_shown, memory_over}
+use Rattle.rh_lent_heap.proofs.HeapBytes.{is_span}
+use Rattle.rh_lent_heap.proofs.heap.segments_from.Goals as goal
+
+pub segments_from-requires : goal.segments_from-requires
+unfolding memory_shown
+segments_from-requires c = is_span c.args.memory.now _ c.requires
+
+pub returns : goal.returns
+unfolding memory_shown memory_over bytes area_set
+returns c = c.segments_from.ensures

@@ -1,0 +1,17 @@
+use Rattle.rh_lent_heap.proofs.Common.{ap, ◌∙◌, ℤ, w32, to_z-of_z, heap_of, bytes, area_set, memory_shown, memory_over}
+use Rattle.rh_defs.specs.Heap.{need_at}
+use Rattle.rh_lent_heap.proofs.HeapBytes.{is_span}
+use Rattle.rh_lent_heap.proofs.indexed.resize_need.Goals as goal
+
+pub resize_need_in-requires-clause-span : goal.resize_need_in-requires-clause-span
+unfolding memory_shown
+resize_need_in-requires-clause-span c = is_span c.args.memory.now _ c.requires.heap
+
+pub resize_need_in-requires-clause-starts : goal.resize_need_in-requires-clause-starts
+unfolding memory_shown memory_over bytes area_set
+resize_need_in-requires-clause-starts c = c.requires.starts
+
+pub returns : goal.returns
+unfolding memory_shown memory_over bytes area_set
+returns c =
+    c.resize_need_in.ensures ∙ ap (λ (d : ℤ). need_at c.args.address d (heap_of c.args.memory.now 0)) (to_z-of_z w32 c.args.delta c.ranges.delta)

@@ -1,0 +1,12 @@
+use Rattle.std.proofs.Common.{length, ◌∙◌, arith}
+use Rattle.rh_lent_slot.proofs.Over.{shown_length, shown_part}
+use Rattle.rh_lent_slot.proofs.pages.LentPagesWords.copy_out.Goals as goal
+
+pub copy_from-requires : goal.copy_from-requires
+copy_from-requires c =
+    omega (arith, shown_length c.args.self.now c.args._id.0 c.requires.opened, c.args.self.now.within, c.requires.within)
+
+pub returns : goal.returns
+returns c =
+    c.copy_from.ensures
+    ∙ shown_part c.args.self.now c.args._id.0 c.requires.opened c.args.at (length c.args.to.now) c.requires.within

@@ -1,0 +1,13 @@
+use Rattle.rh_lent_slot.proofs.Common.{arith, lent_pages_memory}
+use Rattle.rh_lent_slot.proofs.Over.{lent_length, word_written}
+use Rattle.rh_lent_slot.proofs.pages_mut.LentPagesMutWordsMut.set_word.Goals as goal
+
+pub put_word_in-requires : goal.put_word_in-requires
+put_word_in-requires c =
+    omega (arith, lent_length c.args.self.now c.args._id.0 c.requires.opened, c.args.self.now.within, c.requires.within)
+
+pub returns : goal.returns
+unfolding lent_pages_memory
+returns c =
+    word_written c.args.self.now c.args._id.0 c.requires.opened c.put_word_in.new.b c.args.at c.args.w
+    c.put_word_in.ensures c.requires.within

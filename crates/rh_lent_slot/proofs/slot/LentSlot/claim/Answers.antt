@@ -1,0 +1,20 @@
+use Rattle.rh_lent_slot.proofs.Common.{rules, area_set, bytes, lent_pages_memory, pages_memory_over, LeavesSlot, free_in, lent_slot_in}
+use Rattle.rh_defs.specs.Slot.{slot_claim}
+use Rattle.rh_lent_slot.proofs.SlotBytes.{is_slot, leaves_slot}
+use Rattle.rh_lent_slot.proofs.slot.LentSlot.claim.Goals as goal
+
+pub claim-result-requires : goal.claim-result-requires
+unfolding lent_pages_memory
+claim-result-requires c = record { slot = is_slot c.args.bytes.now c.args.self.now _ c.requires }
+
+pub returns : goal.returns
+unfolding lent_pages_memory pages_memory_over bytes area_set
+returns c =
+    let b = c.args.bytes.now in
+    let s = c.args.self.now in
+    let store = c.claim-result.new.store in
+    let granted = slot_claim (free_in b s) c.args.n (lent_slot_in b s) in
+    let name = c.claim-result.ensures.only.loan in
+    let left : LeavesSlot b store.bytes.now s (record { pages = store.pages; budge = s.budge }) granted c.claim-result.result =
+    leaves_slot b s _ store granted c.claim-result.result c.requires c.claim-result.ensures in
+    search rules

@@ -1,0 +1,43 @@
+-- What a step's picture is drawn from.
+use Rattle.std.specs.Prelude.{◌≡◌, ℕ, length}
+use Rattle.std.specs.Option.{option_map}
+use Rattle.rh_defs.specs.Desk.{Desk}
+use Rattle.rh_figure.specs.Share.{IsShared}
+use Rattle.rh_figure.specs.Scene as scene
+use Rattle.rh_figure.specs.Scene.{Before, Scene, scene_of}
+use Rattle.rh_scene.specs.declared.marks.HeapBlock.{HeapBlock}
+use Rattle.rh_scene.specs.declared.marks.Marks.{Marks}
+use Rattle.rh_scene.specs.declared.step_sender.StepSender.{StepSender}
+use Rattle.rh_scene.specs.declared.step.Step.{Step}
+use Rattle.rh_scene.specs.SightMessages.{message_items}
+use Rattle.rh_scene.specs.SightPages.{share_in}
+use Rattle.rh_scene.specs.Seen.{letter_seen}
+
+-- a block of a C heap by its task's handle and its address
+abbrev pub block_seen : HeapBlock → ℕ × ℕ
+block_seen b = (b.handle, b.address)
+
+-- what a command did
+abbrev pub marks_seen : Marks → scene.Marks
+marks_seen m = record {
+  handle = m.handle;
+  put = m.put;
+  heap = block_seen m.heap;
+  module_block = m.module_block;
+  sent = option_map letter_seen m.sent;
+  taken = m.taken;
+}
+
+-- the task that may send a letter at a step, and the ref that its letter would have, as they were before the step
+abbrev pub IsSender : StepSender → Before → Type 0
+IsSender s b = (s.handle ≡ b.handle) × (s.next_ref ≡ b.next_ref)
+
+-- the scene that a step has on a desk
+abbrev pub scene_at : Desk → Step → Scene
+scene_at d step = scene_of d (share_in step.pages.now d) step.kept.now (marks_seen step.marks)
+
+-- the step has the desk's messages, and its pages
+pub record IsStepOf (d : Desk) (step : Step) : Type 0 where
+  pub messages : step.messages.now ≡ message_items d
+  pub all : length step.pages.now ≡ d.pool
+  pub shared : IsShared (share_in step.pages.now d) d

@@ -1,0 +1,87 @@
+//! What a command has changed, block by block.
+
+ghost use Rattle.std.specs.Prelude.{◌≡◌, ◌==◌, ◌&&◌, ◌||◌, length, not};
+ghost use Rattle.std.specs.List.{list_any};
+ghost use Rattle.std.specs.Option.{option_map};
+ghost use Rattle.rh_defs.specs.declared.question.BlockItem.{BlockItem};
+ghost use Rattle.rh_defs.specs.Desk.{Desk, Task};
+ghost use Rattle.rh_figure.specs.Figure.{is_drawn as is_drawn_in, is_recipient as is_recipient_of};
+ghost use Rattle.rh_figure.specs.Layout.{is_changed_block as is_changed_of, is_fresh_block as is_fresh_block_in};
+ghost use Rattle.rh_figure.specs.Layout.{is_fresh_flex as is_fresh_flex_in, is_put as is_put_of};
+ghost use Rattle.rh_scene.specs.Seen.{letter_seen};
+ghost use Rattle.rh_scene.specs.Steps.{scene_at};
+
+use crate::marks::Marks;
+use crate::step::Step;
+use rh_defs::{Anchor, BlockItem, Handle, Ref};
+use rh_figure::limits::MOST_SLOTS;
+
+/// Whether the command has changed the flex block of a task: wrote to it, or none of that anchor and size was there
+/// before.
+pub fn is_fresh_flex(step: &Step<'_>, handle: Handle, anchor: Anchor, size: u32) -> bool
+    ensures { (d : Desk) → result ≡ is_fresh_flex_in (scene_at d step.now) handle anchor size }
+{
+    handle == step.marks.handle
+        && is_changed_block(step.marks.put, step.kept.blocks(), anchor, size)
+}
+
+/// Whether the block was written to, or none of that anchor and size was there before.
+fn is_changed_block(put: Option<Anchor>, before: &[BlockItem], anchor: Anchor, size: u32) -> bool
+    ensures { result ≡ is_changed_of put before.now anchor size }
+{
+    is_put(put, anchor) || !had_block(before, anchor, size)
+}
+
+fn is_put(put: Option<Anchor>, anchor: Anchor) -> bool
+    ensures { result ≡ is_put_of anchor put }
+{
+    match put {
+        Some(written) => written == anchor,
+        None => false,
+    }
+}
+
+/// Whether a block of that anchor and size was there.
+fn had_block(before: &[BlockItem], anchor: Anchor, size: u32) -> bool
+    ensures { result ≡ list_any (λ (b : BlockItem). b.anchor == anchor && b.size == size) before.now }
+{
+    before
+        .iter()
+        .any(|block| block.anchor == anchor && block.size == size)
+}
+
+/// Whether the command made or changed the block of a task's C heap.
+pub fn is_fresh_block(step: &Step<'_>, handle: Handle, address: u32) -> bool
+    ensures { (d : Desk) → result ≡ is_fresh_block_in (scene_at d step.now) handle address }
+{
+    step.marks.heap.handle == handle && step.marks.heap.address == address
+}
+
+/// Whether the message with the ref was sent by the command.
+pub fn is_new_ref(step: &Step<'_>, my_ref: Ref) -> bool
+    ensures { result ≡ (my_ref == step.now.kept.now.next_ref) }
+{
+    u64::from(my_ref.0) == step.kept.next_ref()
+}
+
+/// Whether the slot of a task is drawn, where so many tasks are live: all slots of few tasks are, and of many those
+/// that the command is about.
+pub fn is_drawn(step: &Step<'_>, tasks: usize, handle: Handle) -> bool
+    ensures { (d : Desk) (t : Task) → tasks ≡ length d.tasks → handle ≡ t.handle → result
+        ≡ is_drawn_in (scene_at d step.now) t }
+{
+    tasks <= MOST_SLOTS
+        || handle == step.marks.handle
+        || handle == step.marks.heap.handle
+        || is_recipient(&step.marks, handle)
+}
+
+/// Whether the letter that the command sent is for the task.
+fn is_recipient(marks: &Marks<'_>, handle: Handle) -> bool
+    ensures { result ≡ is_recipient_of handle (option_map letter_seen marks.now.sent) }
+{
+    match marks.sent {
+        Some((letter, _)) => letter.to == handle,
+        None => false,
+    }
+}

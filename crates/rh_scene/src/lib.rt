@@ -1,0 +1,29 @@
+//! What a picture of memory is drawn from: a desk that can be looked at, what is kept of it before a command, and what
+//! the command did; of these the pieces of areas.
+#![tactic(auto)]
+
+mod freshness;
+mod kept;
+mod marks;
+mod message_list;
+mod pages;
+mod pieces;
+mod sight;
+mod step;
+mod step_sender;
+mod tasks;
+mod walk;
+
+pub use freshness::{is_drawn, is_fresh_block, is_fresh_flex, is_new_ref};
+pub use kept::{Holding, Kept, Owner};
+pub use marks::{HeapBlock, Marks, is_still, sent_by};
+pub use message_list::{Place, held_by, message_in, place_of};
+pub use pages::{free_of, pages_of};
+pub use pieces::{MOST_PIECES, Pieces, module_pieces, slot_pieces};
+pub use sight::{
+    AreaSight, HeapOf, Messages, PageList, PagesOf, ScrapSight, Segments, Sight, TaskSight,
+};
+pub use step::Step;
+pub use step_sender::StepSender;
+pub use tasks::{task_named, task_with};
+pub use walk::{Census, heap_address, place_behind, take_census};

@@ -1,0 +1,196 @@
+//! What a command did.
+
+ghost use Rattle.std.specs.Prelude.{◌≡◌, ℕ, Some};
+ghost use Rattle.std.specs.Option.{option_map};
+ghost use Rattle.rh_defs.specs.Desk.{task_at};
+ghost use Rattle.rh_defs.specs.Commands.{is_refused};
+ghost use Rattle.rh_figure.specs.Scene.{Before, buffer_of as buffer_of_sent, heap_mark as heap_mark_of};
+ghost use Rattle.rh_figure.specs.Scene.{is_question as is_question_of, is_still as is_still_of, marks_for};
+ghost use Rattle.rh_figure.specs.Scene.{marks_of as marks_of_desk, module_mark as module_mark_of, no_marks};
+ghost use Rattle.rh_figure.specs.Scene.{put_mark as put_mark_of, sent_by as sent_by_task, taken_mark as taken_mark_of};
+ghost use Rattle.rh_scene.specs.Seen.{letter_seen};
+ghost use Rattle.rh_scene.specs.Steps.{IsSender, block_seen, marks_seen};
+
+use crate::kept::Kept;
+use crate::sight::Sight;
+use crate::step_sender::StepSender;
+use crate::tasks::task_with;
+use rh_defs::{Action, Anchor, Body, Command, Handle, Letter, Ref, Reply};
+
+/// A block of a C heap: its task and its address, 0 and 0 for none.
+#[derive(Clone, Copy, Debug, PartialEq, Eq)]
+pub struct HeapBlock {
+    pub handle: Handle,
+    pub address: u32,
+}
+
+/// No block.
+const NO_BLOCK: HeapBlock = HeapBlock {
+    handle: Handle(0),
+    address: 0,
+};
+
+/// What a command did: the task that it names, the anchor of the block that it wrote to, the block of a C heap and
+/// that of the module area (0 for none) that it made or changed, the letter that was sent, and the message that was
+/// taken.
+#[derive(Clone, Copy)]
+pub struct Marks<'a> {
+    pub handle: Handle,
+    pub put: Option<Anchor>,
+    pub heap: HeapBlock,
+    pub module_block: u32,
+    pub sent: Option<(&'a Letter, Ref)>,
+    pub taken: Option<(Ref, Action)>,
+}
+
+impl<'a> Marks<'a> {
+    /// What a command did, by its reply and the desk behind it; nothing for a bad line, a question or a refusal.
+    pub fn new<S: Sight>(
+        sight: &'a S,
+        kept: &Kept,
+        command: Option<&Command>,
+        reply: &Reply,
+    ) -> Marks<'a>
+        ensures { marks_seen result ≡ marks_of_desk (S.desk sight.now) kept.now (option_map
+            (λ c. c.now) command.entry) reply.now }
+    {
+        match command {
+            Some(command) if !is_still(Some(command), reply) => {
+                Marks::of_change(sight, kept, command, reply)
+            }
+            _ => Marks::none(),
+        }
+    }
+
+    /// Nothing was done.
+    fn none() -> Marks<'a>
+        ensures { marks_seen result ≡ no_marks }
+    {
+        Marks {
+            handle: Handle(0),
+            put: None,
+            heap: NO_BLOCK,
+            module_block: 0,
+            sent: None,
+            taken: None,
+        }
+    }
+
+    /// What a command that was granted did.
+    fn of_change<S: Sight>(sight: &'a S, kept: &Kept, command: &Command, reply: &Reply) -> Marks<'a>
+        ensures { marks_seen result ≡ marks_for (S.desk sight.now) kept.now command.now reply.now }
+    {
+        let sent = sent_by(sight, kept.sender());
+        let other = heap_mark(kept.handle(), command, reply);
+        let heap = match sent {
+            Some((letter, _)) => buffer_in(letter, other),
+            None => other,
+        };
+        Marks {
+            handle: kept.handle(),
+            put: put_mark(command),
+            heap,
+            module_block: module_mark(command, reply),
+            sent,
+            taken: taken_mark(reply),
+        }
+    }
+}
+
+/// Whether a step can't have changed the desk: a bad line, a question, a refusal.
+pub fn is_still(command: Option<&Command>, reply: &Reply) -> bool
+    ensures { result ≡ is_still_of (option_map (λ c. c.now) command.entry) reply.now }
+{
+    match command {
+        None => true,
+        Some(command) => is_question(command) || is_refusal(reply),
+    }
+}
+
+fn is_question(command: &Command) -> bool
+    ensures { result ≡ is_question_of command.now }
+{
+    matches!(command, Command::Ask(_))
+}
+
+fn is_refusal(reply: &Reply) -> bool
+    ensures { result ≡ is_refused reply.now }
+{
+    matches!(reply, Reply::Refused(_))
+}
+
+/// The last letter of the task that may have sent one at a step, if it was sent at that step.
+pub fn sent_by<'a, S: Sight>(sight: &'a S, sender: StepSender) -> Option<(&'a Letter, Ref)>
+    ensures { (b : Before) → IsSender sender b → option_map letter_seen result
+        ≡ sent_by_task b (task_at b.handle (S.desk sight.now)) }
+{
+    let i = task_with(sight, sender.handle)?;
+    let Some(task) = sight.task(i) else {
+        return None;
+    };
+    match task.last_sent {
+        Some((letter, my_ref)) if u64::from(my_ref.0) == sender.next_ref => Some((letter, my_ref)),
+        _ => None,
+    }
+}
+
+/// The block of a C heap that a letter's bytes go into, else another one.
+fn buffer_in(letter: &Letter, other: HeapBlock) -> HeapBlock
+    ensures { (ref : ℕ) → block_seen result ≡ buffer_of_sent (Some (letter.now, ref)) (block_seen other) }
+{
+    match &letter.body {
+        Body::RamFetch { buffer, .. } => HeapBlock {
+            handle: letter.from,
+            address: *buffer,
+        },
+        Body::RamTransmit { buffer, written } if *written > 0 => HeapBlock {
+            handle: letter.to,
+            address: *buffer,
+        },
+        _ => other,
+    }
+}
+
+/// The block of the task's C heap that a command made or changed.
+fn heap_mark(handle: Handle, command: &Command, reply: &Reply) -> HeapBlock
+    ensures { block_seen result ≡ heap_mark_of handle command.now reply.now }
+{
+    match (command, reply) {
+        (Command::Claim { .. } | Command::Resize { .. }, Reply::Block { address }) => HeapBlock {
+            handle,
+            address: *address,
+        },
+        _ => NO_BLOCK,
+    }
+}
+
+/// The block of the module area that a command made or changed, 0 for none.
+fn module_mark(command: &Command, reply: &Reply) -> u32
+    ensures { result ≡ module_mark_of command.now reply.now }
+{
+    match (command, reply) {
+        (Command::RmaClaim { .. } | Command::RmaResize { .. }, Reply::Block { address }) =>
+            *address,
+        _ => 0,
+    }
+}
+
+/// The anchor of the block that a command wrote to.
+fn put_mark(command: &Command) -> Option<Anchor>
+    ensures { result ≡ put_mark_of command.now }
+{
+    match command {
+        Command::Put { anchor, .. } => Some(*anchor),
+        _ => None,
+    }
+}
+
+/// The message that a poll took.
+fn taken_mark(reply: &Reply) -> Option<(Ref, Action)>
+    ensures { result ≡ taken_mark_of reply.now }
+{
+    match reply {
+        Reply::Event { my_ref, action, .. } => Some((*my_ref, *action)),
+        _ => None,
+    }
+}

@@ -1,0 +1,12 @@
+-- The blocks below the place write_anchors, in the anchor words that were lent.
+use Rattle.rh_slot.proofs.Common.{◌≤◌, ◌+◌, ◌-◌, bytes, HangsApart}
+use Rattle.rh_slot.proofs.row.write_anchors_in_page.Given as goal
+
+abbrev pub invariant-walk : goal.invariant-walk
+invariant-walk g l = record {
+  walk : HangsApart (bytes (g.S.Words.memory l.store) l.fn.area.0) l.anchors l.from l.n l.place;
+  on : l.start ≤ l.place;
+}
+
+abbrev pub decreases-walk : goal.decreases-walk
+decreases-walk g l = l.from + l.n - l.place
