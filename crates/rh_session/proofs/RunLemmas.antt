@@ -88,6 +88,15 @@ pub line_answered : {D : Type 0} {spells : D → Desk → Type 0} {s t : Session
 line_answered {spells = spells} {s = s} {t = t} {text = text} line meaning means answered =
     subst (λ (z : Meaning (Option Command)). AnsweredMeaning spells s z t text) (means ∙ sym (kept_means line)) answered
 
+-- a session answers as any other over the same desktop that has met the same lines
+pub answered_by : {D : Type 0} {spells : D → Desk → Type 0} {r s t : Session D} {meaning : Meaning (Option Command)} {text : List ℕ}
+    → r.desktop ≡ s.desktop → r.has_bad_line ≡ s.has_bad_line → AnsweredMeaning spells r meaning t text → AnsweredMeaning spells s meaning t text
+answered_by {spells = spells} {meaning = meaning} desktop bad answered = record {
+  desk = λ d h. answered.desk d (started spells d desktop h);
+  answer = λ d h. answered.answer d (started spells d desktop h);
+  bad = answered.bad ∙ ap (λ z. z || is_err meaning) bad;
+}
+
 -- ---- lines one after the other
 
 -- a session that has answered these lines from a desk on

@@ -14,10 +14,11 @@ use rh_defs::{Command, LineFault, Question};
 use rh_feed::LineTaker;
 use rh_lines::{Pen, put_fault, put_first_line, read_line};
 
-/// A script in the middle of its run: the desktop, and whether a line was bad.
+/// A script in the middle of its run: the desktop, the place of each line's command, and whether a line was bad.
 #[derive(Drop)]
 pub struct Session<D> {
     desktop: D,
+    command: Command,
     has_bad_line: bool,
 }
 
@@ -31,20 +32,21 @@ impl<D: Desktop> Session<D> {
     {
         Session {
             desktop,
+            command: Command::Ask(Question::Areas),
             has_bad_line: false,
         }
     }
 
-    /// Does a command, and answers it. A question is asked of the desktop as it stands.
-    fn carry_out<P: Pen>(&mut self, command: &Command, pen: &mut P)
-        requires { IsTrue (in_range command.now) }
-        ensures { Gives (AnsweredMeaning D.spells self.old (Ok (Some command.now)) self.new) (P.offered pen.old)
+    /// Does the command that was read, and answers it. A question is asked of the desktop as it stands.
+    fn carry_out<P: Pen>(&mut self, pen: &mut P)
+        requires { IsTrue (in_range self.old.command) }
+        ensures { Gives (AnsweredMeaning D.spells self.old (Ok (Some self.old.command)) self.new) (P.offered pen.old)
             (P.offered pen.new) }
     {
-        match command {
+        match &self.command {
             Command::Ask(question) => self.desktop.put_answer(question, pen),
             _ => {
-                let reply = self.desktop.apply(command);
+                let reply = self.desktop.apply(&self.command);
                 put_first_line(&reply, pen);
             }
         }
@@ -73,10 +75,9 @@ impl<D: Desktop> LineTaker for Session<D> {
     ghost room = { λ _. 2 ^ 64 };
 
     fn take_line<P: Pen>(&mut self, line: &[u8], pen: &mut P) {
-        let mut command = Command::Ask(Question::Areas);
-        match read_line(line, &mut command) {
+        match read_line(line, &mut self.command) {
             Ok(false) => {}
-            Ok(true) => self.carry_out(&command, pen),
+            Ok(true) => self.carry_out(pen),
             Err(fault) => {
                 self.has_bad_line = true;
                 put_fault(&fault, pen);

@@ -25,7 +25,7 @@ returns-in_default g c = record {
   told = record {
     desk = c.apply-reply.ensures.desk;
     answer = λ d h. rw (
-      one-line (step d c.args.command.now).0 c.args.command.now (step d c.args.command.now).1 c.in_default.not-Ask,
+      one-line (step d c.args.self.now.command).0 c.args.self.now.command (step d c.args.self.now.command).1 c.in_default.not-Ask,
       ← c.apply-reply.ensures.reply d h,
     )
         refl;

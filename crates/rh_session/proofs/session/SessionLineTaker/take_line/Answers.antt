@@ -1,7 +1,7 @@
 use Rattle.std.proofs.Common.{[], append-nil, refl, sym}
 use Rattle.rh_defs.specs.Text.{fault_text}
 use Rattle.rh_feed.proofs.FeedLemmas.{gives_so}
-use Rattle.rh_session.proofs.RunLemmas.{line_answered, or_false, or_true}
+use Rattle.rh_session.proofs.RunLemmas.{answered_by, line_answered, or_false, or_true}
 use Rattle.rh_session.proofs.session.SessionLineTaker.take_line.Goals as goal
 
 pub returns-in-Ok-false-clause-took : goal.returns-in-Ok-false-clause-took
@@ -14,7 +14,9 @@ returns-in-Ok-false-clause-took g c = record {
 
 pub returns-in-Ok-true-clause-took : goal.returns-in-Ok-true-clause-took
 returns-in-Ok-true-clause-took g c =
-    gives_so refl (λ text answered. line_answered c.args.line.now _ (rw c.in-Ok-true.field-0-test at c.in-Ok-true.ensures.means) answered) c.carry_out.ensures
+    gives_so refl
+    (λ text answered. line_answered c.args.line.now _ (rw c.in-Ok-true.field-0-test at c.in-Ok-true.ensures.means) (answered_by refl refl answered))
+    c.carry_out.ensures
 
 pub returns-in-Err-clause-took : goal.returns-in-Err-clause-took
 returns-in-Err-clause-took g c = record {
