@@ -182,7 +182,7 @@ fn changed_words<S: WordsMut>(store: &mut S, span: Span) -> Option<u32>
     Some(taken)
 }
 
-/// The same of a heap of 512 bytes.
+/// How many images are taken for heaps that a heap of 512 bytes spells, once one of their words is another.
 fn heaps_with_one_word_changed(alloc: Global) -> Option<u32> {
     let mut store = PlainStore::new(alloc, 8).ok()?;
     let span = empty_heap(&mut store, 8, 512)?;

@@ -31,7 +31,7 @@ impl<'a> Row<'a> {
         }
     }
 
-    /// The same, if a word of the memory holds it.
+    /// The number at a place, if a word of the memory holds it.
     pub(crate) fn number(&self, at: usize) -> Option<u32> {
         u32::try_from(self.size(at)?).ok()
     }

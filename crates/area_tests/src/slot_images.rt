@@ -37,7 +37,7 @@ fn first(alloc: Global, n: usize) -> Option<String> {
     shown(alloc, check(image.get(..n)?))
 }
 
-/// The same of all but so many of its first bytes.
+/// What the checker says of all but so many of the worked slot's first bytes.
 fn without_first(alloc: Global, n: usize) -> Option<String> {
     let image = worked();
     shown(alloc, check(image.get(n..)?))
@@ -189,7 +189,8 @@ fn slots_at(place: usize) -> Option<u32> {
     Some(slots)
 }
 
-/// The same of all places from one up to another.
+/// Gives the byte of the worked slot at each place from one up to another every value, and counts the images that are
+/// slots; none where the model has it otherwise.
 fn slots_among(from: usize, to: usize) -> Option<u32> {
     let mut slots = 0u32;
     for place in from..to {

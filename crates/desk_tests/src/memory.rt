@@ -134,7 +134,7 @@ fn makes<R: Abort>(rt: &R, alloc: Global, maker: Maker) -> bool {
     }
 }
 
-/// The same, so many calls further down.
+/// Whether it had the memory that it asked for, so many calls further down.
 fn makes_below<R: Abort>(rt: &R, alloc: Global, maker: Maker, calls: u32) -> bool {
     if calls == 0 {
         return makes(rt, alloc, maker);

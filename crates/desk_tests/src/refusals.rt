@@ -22,7 +22,7 @@ fn ends<R: Abort + rt::Files + AllocGlobal>(runtime: &R, words: &[String], trial
     trial.meets(runtime, &ended(runtime, words));
 }
 
-/// The same, so many calls further down. Answers how many these are.
+/// The program ends on these words as it should, so many calls further down. Answers how many these are.
 fn ends_below<R: Abort + rt::Files + AllocGlobal>(
     runtime: &R,
     words: &[String],
@@ -89,7 +89,7 @@ fn try_all<R: Abort + rt::Files + AllocGlobal>(
 const AREAS_OF_64: &str =
     "ok 63\n  area 0 0\n  area 1 1\n  area 2 0\n  area 3 0\n  area 4 0\n  area 5 0\n";
 
-/// The same over 8 pages.
+/// The answer to `areas` over 8 pages, of which the module area has one.
 const AREAS_OF_8: &str =
     "ok 7\n  area 0 0\n  area 1 1\n  area 2 0\n  area 3 0\n  area 4 0\n  area 5 0\n";
 

@@ -1,4 +1,6 @@
 -- Lists of bytes: words in little-endian order, ranges, and writes of several bytes.
+-- b and c are lists of bytes, k is a place in them, w a word: four bytes, or the number that they spell.
+-- A byte that is read past the end is 0, and one that is written there changes nothing.
 use Rattle.std.specs.Prelude.{◌≡◌, ℕ, zero, suc, ◌+◌, ◌<◌, ◌≤◌, List, [], ◌∷◌, length, slice_index, slice_set}
 use Rattle.std.specs.Int.{w32, from_le_bytes, to_le_bytes}
 

@@ -1,4 +1,6 @@
 -- What may be refused or have a fault: its steps one after another, up to the first that is or has.
+-- This file comes before all others. A `do` writes >>= and >> for short: in `x ← step` x is what the step gives, and
+-- `_ ← step`, or a step alone, counts for its refusal alone. p is a pair: what a call leaves, and what it answers.
 use Rattle.std.specs.Prelude.{Bool, true, false, Option, Some, None, Result, Ok, Err}
 use Rattle.rh_defs.specs.declared.refusal.Refusal.{Refusal}
 

@@ -1,4 +1,8 @@
--- What each command does, as steps of which the first refusal is the answer; and the desk after one command.
+-- What each command does, as steps of which the first refusal is the answer; and the desk after one command (*step*).
+-- Read Desk, Slot and Module first. d is the desk, t the task, k an anchor or the number of an area, n a size, m a made
+-- area; of what a call gives, .0 is left and .1 is answered. `_ ← step` or a step alone counts for its refusal alone.
+-- `-` of naturals stops at 0: an address below the module area becomes 0 there, where no block is; an area that doesn't
+-- get longer takes no free pages (*pages_after*).
 use Rattle.std.specs.Prelude.{ℕ, ◌+◌, ◌-◌, ◌*◌, ◌/◌, ◌^◌, ℤ, pos, negsuc, Bool, false, not, nat_lt, nat_le, ◌==◌, if◌then◌else◌, List, [], ◌∷◌, ◌++◌, length, filter, find, map, slice_index, slice_set, Option, Some, None, Ok, true}
 use Rattle.std.specs.List.{list_any}
 use Rattle.std.specs.Str.{bytes_eq}
@@ -66,7 +70,7 @@ alloc d name k n = do
   p ← slot_alloc (free_pages d) k n t.slot
   Ok (with_slot t.handle p.0 d, reply.Block p.1)
 
--- the same, with a file's bytes in it
+-- a block with a file's bytes on top of the task's slot
 unfoldable pub load : Desk → List ℕ → ℕ → List ℕ → Granted Answer
 load d name k file = do
   t ← named name d
@@ -79,7 +83,7 @@ load d name k file = do
 unfoldable pub put : Desk → List ℕ → ℕ → ℕ → List ℕ → Granted Answer
 put d name k offset bytes = do
   t ← named name d
-  b ← idle_block k t
+  _ ← idle_block k t
   s ← slot_put k offset bytes t.slot
   Ok (with_slot t.handle s d, reply.Done)
 
@@ -87,7 +91,7 @@ put d name k offset bytes = do
 unfoldable pub free : Desk → List ℕ → ℕ → Granted Answer
 free d name k = do
   t ← named name d
-  b ← idle_block k t
+  _ ← idle_block k t
   s ← slot_free k t.slot
   Ok (with_slot t.handle s d, reply.Done)
 
@@ -95,7 +99,7 @@ free d name k = do
 unfoldable pub extend : Desk → List ℕ → ℕ → ℕ → Granted Answer
 extend d name k n = do
   t ← named name d
-  b ← idle_block k t
+  _ ← idle_block k t
   s ← slot_extend (free_pages d) k n t.slot
   Ok (with_slot t.handle s d, reply.Done)
 
@@ -103,7 +107,7 @@ extend d name k n = do
 unfoldable pub mid : Desk → List ℕ → ℕ → ℕ → ℤ → Granted Answer
 mid d name k offset by = do
   t ← named name d
-  b ← idle_block k t
+  _ ← idle_block k t
   s ← slot_mid (free_pages d) k offset by t.slot
   Ok (with_slot t.handle s d, reply.Done)
 
@@ -120,7 +124,7 @@ claim d name n = do
 unfoldable pub release : Desk → List ℕ → ℕ → Granted Answer
 release d name address = do
   t ← named name d
-  b ← idle_buffer address t
+  _ ← idle_buffer address t
   s ← slot_release address t.slot
   Ok (with_slot t.handle s d, reply.Done)
 
@@ -128,7 +132,7 @@ release d name address = do
 unfoldable pub resize : Desk → List ℕ → ℕ → ℤ → Granted Answer
 resize d name address delta = do
   t ← named name d
-  b ← idle_buffer address t
+  _ ← idle_buffer address t
   p ← slot_resize (free_pages d) address delta t.slot
   Ok (with_slot t.handle p.0 d, reply.Block p.1)
 
@@ -205,7 +209,7 @@ make d most = do
 -- a made area away, its pages free
 unfoldable pub remove : Desk → ℕ → Granted Answer
 remove d k = do
-  m ← found_or (find (is_numbered k) d.made) NoArea
+  _ ← found_or (find (is_numbered k) d.made) NoArea
   Ok (record d { made = filter (λ other. not (is_numbered k other)) d.made }, reply.Done)
 
 -- ---- the module area's blocks
@@ -226,14 +230,14 @@ rma_claim d n = do
 -- a block freed
 unfoldable pub rma_free : Desk → ℕ → Granted Answer
 rma_free d address = do
-  b ← own_block address d
+  _ ← own_block address d
   h ← module_free (address - module_start) d.post.heap
   Ok (with_module h d, reply.Done)
 
 -- a block with delta bytes more
 unfoldable pub rma_resize : Desk → ℕ → ℤ → Granted Answer
 rma_resize d address delta = do
-  b ← own_block address d
+  _ ← own_block address d
   c ← module_resize (free_pages d) (address - module_start) delta d.post.heap
   Ok (with_module c.0 d, reply.Block (module_start + c.1))
 

@@ -1,4 +1,7 @@
 -- The desk: the live tasks, the post, the areas, the scrap file, the files, and what is given next.
+-- Read Slot, Post and Records first. d is a desk, t a task, h a handle, k an anchor, m a made area, l a letter, p a
+-- post. `-` of naturals doesn't have to stop in *free_pages*: no desk of a run has more pages in use than its pool
+-- (Laws). A step alone in a `do` counts for its refusal alone.
 use Rattle.std.specs.Prelude.{ℕ, ◌+◌, ◌-◌, ◌/◌, Bool, ◌||◌, ◌==◌, if◌then◌else◌, List, [], ◌∷◌, length, Option, Some, None, find, Ok}
 use Rattle.std.specs.List.{list_any}
 use Rattle.std.specs.Str.{bytes_eq}

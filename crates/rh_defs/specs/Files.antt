@@ -1,4 +1,5 @@
--- The named files, in the order given: pairs of a name and its bytes.
+-- The named files, in the order given: pairs of a name (file.0) and its bytes (file.1).
+-- Nothing is to be read before.
 use Rattle.std.specs.Prelude.{ℕ, ◌≤◌, Bool, List, [], ◌∷◌, length, map, find, Option, Vec}
 use Rattle.std.specs.List.{list_any}
 use Rattle.std.specs.Option.{option_map}

@@ -1,4 +1,6 @@
--- The forms of names and numbers.
+-- The forms of names and numbers. Each is a test of a word w of a line, or of a number n of a command.
+-- k is an anchor, c a byte. A byte of a word without bytes is 0, which is neither a letter nor a digit.
+-- In *number_of* c is a digit, at least 48, for which `-` doesn't have to stop.
 use Rattle.std.specs.Prelude.{ℕ, ◌+◌, ◌*◌, ◌-◌, ℤ, pos, negsuc, Bool, ◌&&◌, nat_le, nat_lt, slice_index, List, length, fold}
 use Rattle.std.specs.List.{list_all}
 use Rattle.std.specs.Char.{is_ascii_alphabetic, is_ascii_alphanumeric, is_ascii_digit}

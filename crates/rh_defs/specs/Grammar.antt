@@ -1,5 +1,7 @@
 -- What a line may be: one row for each command, of the words that name it, the forms of its further words, and the
--- command made of them; and how a command is spelled, by its row and the values of these words.
+-- command made of them; and how a command is spelled, by its row and the values of these words. Read Forms first.
+-- k is an anchor or the number of an area, n a size, by a signed amount, q a question.
+-- `-` of naturals doesn't have to stop: there is an anchor at least.
 use Rattle.std.specs.Prelude.{ℕ, ◌-◌, Bool, true, false, List, [], ◌∷◌, map, Option, Some, None, ℤ, pos, codes}
 use Rattle.rh_defs.specs.declared.command.Command.{Command}
 use Rattle.rh_defs.specs.declared.command.Command.TheVariants.{Task, Kill, Alloc, Load, Put, Free, Extend, Mid, Claim, Release, Resize, Budge, Save, Poll, CancelIn, CancelOut, Repeat, Area, Make, Remove, RmaClaim, RmaFree, RmaResize, Ask}

@@ -1,4 +1,8 @@
--- Heaps as lists of used segments and holes, and the calls on them.
+-- Heaps as lists of used segments and holes, and the calls on them. Read Pieces first.
+-- n is a number of bytes that is asked for, t that of a whole segment, s a list of segments cut at one, g a segment, h
+-- a heap. Addresses count from the heap's descriptor: 20 is the least address of a block, 4 above its segment's place.
+-- `-` of naturals stops at 0, by which a shortage is 0 where there is room (*shortage_in*, *resize_need*), *fitted*
+-- adds no zeros where it cuts, and *largest* is 0 where nothing is free. Bytes above the last used segment are no hole.
 use Rattle.std.specs.Prelude.{◌≡◌, ℕ, zero, suc, ◌+◌, ◌-◌, ◌<◌, ◌≤◌, ◌%◌, ℤ, Bool, true, false, nat_lt, nat_le, ◌==◌, max, if◌then◌else◌, List, [], ◌∷◌, ◌++◌, length, take, Option, Some, None, Result, Ok, Err, ok_or}
 use Rattle.std.specs.Option.{option_map}
 use Rattle.rh_defs.specs.Pieces.{round_up, page_size, zeros, moved, total, Split, first_at, with_here, is_inside}
@@ -149,7 +153,7 @@ claim_block n h =
     else if need n h == 0 then Ok (as_granted (placed_block (zeros (block_room n)) h))
     else Err NoRoom
 
--- the same as the answer to a call
+-- by how much the heap is too short for a block of n bytes, as the answer to a call
 abbrev pub claim_need : ℕ → Heap → Result ℕ HeapRefusal
 claim_need n h = if n == 0 then Err BadSize else Ok (need n h)
 
@@ -157,7 +161,7 @@ claim_need n h = if n == 0 then Err BadSize else Ok (need n h)
 abbrev pub raised : ℕ → Heap → Heap
 raised shortage h = record h { end = h.end + round_up page_size shortage }
 
--- the same, where the heap may grow
+-- a block of n zeros, in a heap that grows where it is too short
 abbrev pub claim_growing : ℕ → Heap → Placed
 claim_growing n h = placed_block (zeros (block_room n)) (raised (need n h) h)
 
@@ -171,11 +175,11 @@ abbrev pub release_found : Option (Split Segment) → Heap → Heap
 release_found None h = h
 release_found (Some s) h = released s h
 
--- the heap without the block at the address; the same where no block begins there
+-- the heap without the block at the address; as it was where no block begins there
 abbrev pub release_block : ℕ → Heap → Heap
 release_block address h = release_found (block_at address h) h
 
--- the same, refused where no block begins there
+-- the heap without the block at the address, refused where no block begins there
 abbrev pub released_at : ℕ → Heap → Result Heap HeapRefusal
 released_at address h = ok_or (option_map (λ s. released s h) (block_at address h)) NotABlock
 
@@ -252,7 +256,7 @@ resize_need n s h = end_for (way_to (segment_size n) s h) (segment_size n) s h -
 abbrev pub resized : ℕ → Split Segment → Heap → Heap → Placed
 resized n s h longer = resized_by (way_to (segment_size n) s h) (fitted (block_room n) (bytes_of s.here)) s longer
 
--- the same, where the heap may grow
+-- the block at the cut with n bytes, in a heap that grows where it is too short
 abbrev pub resize_growing : ℕ → Split Segment → Heap → Placed
 resize_growing n s h = resized n s h (raised (resize_need n s h) h)
 

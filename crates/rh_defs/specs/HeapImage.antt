@@ -1,4 +1,7 @@
--- The bytes that spell a heap, and the first fault of bytes that spell none.
+-- The bytes that spell a heap, and the first fault of bytes that spell none. Read Bytes and Heap first.
+-- b is the bytes, p the place of a segment, f the place of the link that leads to the next hole, k at most so many
+-- steps. A hole has its link and then its size, a used segment its size and then its block. A link counts from its own
+-- place. Only sizes of 4 at least spell a used segment: `-` of naturals stops at 0 below, in bytes that spell no heap.
 use Rattle.std.specs.Prelude.{◌≡◌, ℕ, zero, suc, ◌+◌, ◌-◌, ◌%◌, ◌≤◌, ◌==◌, Bool, nat_le, nat_lt, ◌&&◌, ◌||◌, if◌then◌else◌, List, [], ◌∷◌, length, Option, Some, None}
 use Rattle.rh_defs.specs.Bytes.{word, part}
 use Rattle.rh_defs.specs.Heap.{Segment, Used, Hole, Heap, IsHeap, base, first_place}

@@ -1,4 +1,7 @@
--- What is known of a heap's bytes in part: while a walk goes over them, and while a stretch between segments stands open.
+-- What is known of a heap's bytes in part: while a walk goes over them, and while a stretch between segments stands
+-- open. Read HeapImage first. b is the bytes, at where the heap begins in them, p the place of a segment, f and q
+-- places of links, bs a block's bytes; xs are the segments before the stretch, ys those behind. x is a place from `at`
+-- on, 0 for none. `-` of naturals stops at 0: *rest_in* has no segments where place is not below base.
 use Rattle.std.specs.Prelude.{◌≡◌, ◌≢◌, ℕ, ◌+◌, ◌-◌, ◌<◌, ◌≤◌, ◌%◌, List, [], ◌∷◌, length}
 use Rattle.rh_defs.specs.Bytes.{word, part}
 use Rattle.rh_defs.specs.Pieces.{total}

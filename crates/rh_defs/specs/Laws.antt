@@ -1,4 +1,6 @@
--- What holds of every desk of a run, and of all bytes that spell a heap or a slot.
+-- What holds of every desk of a run, and of all bytes that spell a heap or a slot. Read Runs, Blocks and SlotImage
+-- first. d is a desk, t a task, m a made area, s a seat or a slot, p a message in its block, h a heap before a call and
+-- k the one after; least and next bound numbers that go up: from least on, below next.
 use Rattle.std.specs.Prelude.{ℕ, ◌+◌, ◌*◌, ◌^◌, ◌<◌, ◌≤◌, ◌≡◌, true, Some, Ok, List, [], ◌∷◌, length, map, slice_index, IfSome}
 use Rattle.std.specs.List.{AllByRecursion}
 use Rattle.rh_defs.specs.declared.command.Command.{Command}
@@ -115,7 +117,7 @@ Always P =
 abbrev pub HaveOneHeap : Type 0
 HaveOneHeap = (b : List ℕ) (at : ℕ) (h : Heap) → Spells b at h → heap_of b at ≡ h
 
--- the same of a slot; whether budging is on does not stand in the bytes
+-- bytes that spell a slot spell the one that is read from them, and no other; they don't say whether budging is on
 abbrev pub HaveOneSlot : Type 0
 HaveOneSlot = (b : List ℕ) (s : Slot) → SpellsSlot b s → slot_of s.budging b ≡ s
 

@@ -1,4 +1,6 @@
--- What a line of a script means: a command, nothing, or its first fault.
+-- What a line of a script means: a command, nothing, or its first fault. Read Chain, Forms and Grammar first.
+-- words are the words of a line, w is one of them, n its number, counted from 1, or how many words are read; c a byte.
+-- A word past the end has no bytes, and no form takes it; its first byte is 0. `-` of naturals doesn't have to stop.
 use Rattle.std.specs.Prelude.{ℕ, zero, suc, ◌+◌, ◌*◌, ◌-◌, ℤ, pos, negsuc, Bool, true, false, ◌&&◌, ◌||◌, not, nat_le, nat_lt, ◌==◌, List, [], ◌∷◌, length, filter, fold, drop, slice_index, slice_get, unwrap_or, Option, Some, None, Result, Ok, Err, if◌then◌else◌}
 use Rattle.std.specs.List.{slice_split, list_all}
 use Rattle.std.specs.Str.{bytes_eq}

@@ -1,4 +1,7 @@
 -- Memory: areas of bytes in whole pages of 4,096 bytes, and pages that are free.
+-- Read Pieces and Bytes first. m and n are memories, before and after; id is an area's number, bs its bytes.
+-- *grown* and *shrunk* are used only where so many pages are free, or are the area's: `-`, which stops at 0, takes no
+-- more than there is.
 use Rattle.std.specs.Prelude.{◌≡◌, ◌≢◌, ℕ, zero, suc, ◌+◌, ◌-◌, ◌*◌, ◌/◌, ◌==◌, if◌then◌else◌, List, [], ◌++◌, length, take, replicate, Option, Some, None, IsSome, unwrap_or}
 use Rattle.rh_defs.specs.Bytes.{SameIn, SameOutside}
 use Rattle.rh_defs.specs.Pieces.{page_size}

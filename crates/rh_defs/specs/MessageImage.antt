@@ -1,4 +1,6 @@
--- Which bytes spell a message, and the first fault of bytes that spell none.
+-- Which bytes spell a message, and the first fault of bytes that spell none. Read Messages first.
+-- b is the bytes, m the message, f the data of a file; end is what the length word says: the message ends there.
+-- `-` of naturals doesn't have to stop: a name is looked for only where end is 48 at least, above *MESSAGE_NAME*.
 use Rattle.std.specs.Prelude.{◌≡◌, ℕ, ◌+◌, ◌-◌, ◌%◌, ◌<◌, ◌≤◌, ◌==◌, ◌&&◌, Bool, true, nat_lt, nat_le, if◌then◌else◌, List, [], ◌∷◌, length, slice_index, Option, Some, None, Result, Ok, Err}
 use Rattle.std.specs.List.{position}
 use Rattle.rh_defs.specs.Bytes.{word, part}

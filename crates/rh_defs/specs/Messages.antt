@@ -1,4 +1,7 @@
--- What a message says, and the bytes that spell it.
+-- What a message says, and the bytes that spell it. Read Bytes and Pathnames first.
+-- m is a message, f the data of a file, b a body, p a parcel: a message that is queued or held, in its block of the
+-- module area. link is the first word of that block: where the block of the next message is, or 0.
+-- `-` of naturals doesn't have to stop: a rounded length is no less than the length.
 use Rattle.std.specs.Prelude.{◌≡◌, ℕ, ◌+◌, ◌-◌, ◌^◌, ◌<◌, Bool, true, false, ◌==◌, if◌then◌else◌, List, [], ◌∷◌, ◌++◌, length, Option, Some, None}
 use Rattle.rh_defs.specs.Bytes.{with_part, word_bytes}
 use Rattle.rh_defs.specs.Pieces.{round_up, zeros}

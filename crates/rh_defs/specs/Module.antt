@@ -1,4 +1,8 @@
--- The module area: a heap that is as long as its area, and takes free pages where it is too short.
+-- The module area: a heap that is as long as its area, and takes free pages where it is too short. Read Chain and Heap
+-- first. n is a number of bytes, h the heap before the call, free the number of free pages, b a cut at the block with
+-- an address. `-` of naturals stops at 0: *changed_length* is 0, below each base, where more bytes would go than there
+-- are, and a change takes no free pages where the area doesn't get longer. `_ ← refuse_if ..` counts for its refusal
+-- alone.
 use Rattle.std.specs.Prelude.{◌≡◌, ℕ, ◌+◌, ◌-◌, ◌%◌, ℤ, pos, negsuc, nat_lt, ◌==◌, Ok}
 use Rattle.rh_defs.specs.declared.refusal.Refusal.TheVariants.{NotABlock, BadSize, ExcessiveShrink, NoRoom}
 use Rattle.rh_defs.specs.Chain.{Granted, ◌>>=◌, refuse_if, found_or}

@@ -1,4 +1,4 @@
--- What a command names: its task, and a block of it.
+-- What a command names: its task, and a block of it. Read Grammar first. c is a command.
 use Rattle.std.specs.Prelude.{ℕ, List, ◌∷◌, Option, Some, None}
 use Rattle.rh_defs.specs.declared.command.Command.{Command}
 use Rattle.rh_defs.specs.Grammar.{Form, Name, Values, Spelling, spelled_by, spelling}

@@ -1,4 +1,5 @@
--- Desks that differ in the order of messages to different tasks alone.
+-- Desks that differ in the order of messages to different tasks alone. Read Commands first.
+-- h is a handle, p a message in its block, a and b are two such desks, c is a command.
 use Rattle.std.specs.Prelude.{ℕ, ◌≡◌, ◌==◌, Bool, List, filter}
 use Rattle.rh_defs.specs.declared.command.Command.{Command}
 use Rattle.rh_defs.specs.Messages.{Parcel}

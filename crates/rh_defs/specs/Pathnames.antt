@@ -1,4 +1,4 @@
--- The names that messages carry.
+-- The names that messages carry. Nothing is to be read before; b is a byte.
 use Rattle.std.specs.Prelude.{ℕ, Bool, ◌&&◌, nat_lt, nat_le, List, length}
 use Rattle.std.specs.List.{list_all}
 use Rattle.rh_defs.specs.declared.sizes.TheConstants.{LONGEST_PATHNAME}

@@ -1,4 +1,7 @@
--- Bytes at addresses of a slot, and the anchors without a block.
+-- Bytes at addresses of a slot, and the anchors without a block. Read Slot first.
+-- x and y are addresses, n and m numbers of bytes, k an anchor, s a slot, b a cut at the block that holds the bytes.
+-- `-` of naturals stops at 0: an address below the C heap becomes 0 there, where no block is. A block that was found
+-- holds the address, which makes the offset in it exact.
 use Rattle.std.specs.Prelude.{ℕ, zero, suc, ◌+◌, ◌-◌, Bool, ◌&&◌, nat_lt, nat_le, if◌then◌else◌, List, [], length, take, Option, Some, None}
 use Rattle.rh_defs.specs.Pieces.{Split, with_here, written}
 use Rattle.rh_defs.specs.Heap.{Segment, Used, bytes_of, place_after, block_around}
@@ -23,7 +26,7 @@ abbrev pub written_heap : ℕ → List ℕ → Option (Split Segment) → Slot �
 written_heap x bytes None s = s
 written_heap x bytes (Some b) s = with_heap_bytes b (x - (heap_start + place_after b.before + 4)) bytes s
 
--- the same, in the flex block that holds them, where there is one
+-- the slot with bytes written at an address: in the flex block that holds them where there is one, else in the C heap's
 abbrev pub written_around : ℕ → List ℕ → Option (Split Flex) → Slot → Slot
 written_around x bytes None s = written_heap x bytes (block_around (x - heap_start) (length bytes) s.heap) s
 written_around x bytes (Some b) s = with_block_bytes b (written b.here.bytes (x - flex_address s b.before) bytes) s

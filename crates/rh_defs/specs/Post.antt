@@ -1,4 +1,7 @@
--- The post: messages queued and held, each in a block of the module area's heap.
+-- The post: messages queued and held, each in a block of the module area's heap. Read Module, Blocks and Messages
+-- first. h is a handle, or a heap where a type says that; s a seat, p a message in its block, l a letter, t a message
+-- taken out of a queue with what is left of the queue, there a heap and the address of a block that was claimed in it.
+-- A message is queued until its task polls. A recorded one is then held until the task answers, or polls again.
 use Rattle.std.specs.Prelude.{ℕ, ◌+◌, ◌^◌, Bool, true, false, not, nat_le, ◌==◌, ◌||◌, if◌then◌else◌, List, [], ◌∷◌, ◌++◌, length, filter, Option, Some, None, Ok}
 use Rattle.std.specs.List.{list_any}
 use Rattle.rh_defs.specs.declared.refusal.Refusal.TheVariants.{NoTask, NoRefs, QueueFull}
@@ -78,7 +81,7 @@ post_join h post = record post { seats = post.seats ++ record { handle = h; hold
 abbrev pub message_of : Letter → ℕ → Message
 message_of l ref = record { from = l.from; my_ref = ref; your_ref = l.your_ref; body = l.body }
 
--- the same, in a block
+-- the message of a letter, with its ref, in a block
 abbrev pub parcel_of : Letter → ℕ → ℕ → Parcel
 parcel_of l ref block = record { code = l.code; to = l.to; block = block; message = message_of l ref }
 

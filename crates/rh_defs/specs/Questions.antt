@@ -1,4 +1,6 @@
 -- What is asked of a desk: of each question its whole answer, or its refusal, and what is read item by item.
+-- Read Desk first. d is the desk, t the task, k an anchor, b a cut at its block, i the number of an item, counted from
+-- 0. A step alone in a `do` counts for its refusal alone.
 use Rattle.std.specs.Prelude.{ℕ, ◌+◌, nat_lt, ◌==◌, if◌then◌else◌, List, [], ◌∷◌, ◌++◌, length, take, drop, map, slice_get, Option, Ok, Bool, false, ◌&&◌}
 use Rattle.std.specs.List.{enumerate_from}
 use Rattle.std.specs.Option.{option_map}

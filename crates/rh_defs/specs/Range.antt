@@ -1,4 +1,5 @@
--- The commands whose numbers, names and bytes are of their forms.
+-- The commands whose numbers, names and bytes are of their forms: those that a line can spell. Read Forms and Grammar
+-- first. q is a question, c a command.
 use Rattle.std.specs.Prelude.{Bool, true, ◌&&◌, nat_le, List, [], ◌∷◌, length, Some, None}
 use Rattle.std.specs.List.{list_all}
 use Rattle.rh_defs.specs.declared.command.Command.{Command}
@@ -36,6 +37,6 @@ can_be_asked q = can_be_read (question_spelling q)
 unfoldable pub in_range : Command → Bool
 in_range c = can_be_read (spelling c)
 
--- the same of each command of a list
+-- whether each command of a list is one that a line can spell, however long the line
 abbrev pub all_in_range : List Command → Bool
 all_in_range commands = list_all in_range commands

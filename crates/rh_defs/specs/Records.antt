@@ -1,4 +1,7 @@
 -- The records of a task's transfers: lists in the order made, which is the order of ids.
+-- An id is the ref of the DataSave. x is an open transfer that goes out, f one that comes in and has a buffer, q one
+-- that waits for a file, r a record of any state, k an anchor. Done and Failed have ended; lasts tests that a record
+-- hasn't.
 use Rattle.std.specs.Prelude.{ℕ, Bool, true, false, nat_le, ◌==◌, if◌then◌else◌, List, [], ◌∷◌, ◌++◌, length, filter, map, Option, Some, None}
 use Rattle.rh_defs.specs.declared.transfer.Sending.{Sending}
 use Rattle.rh_defs.specs.declared.transfer.Taking.{Taking}

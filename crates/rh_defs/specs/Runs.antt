@@ -1,4 +1,4 @@
--- Whole runs: the desk after a list of commands, and their replies.
+-- Whole runs: the desk after a list of commands, and their replies. Read Commands first. d is a desk, c a command.
 use Rattle.std.specs.Prelude.{ℕ, List, [], ◌∷◌, None}
 use Rattle.rh_defs.specs.declared.command.Command.{Command}
 use Rattle.rh_defs.specs.declared.reply.Reply.{Reply}

@@ -1,4 +1,5 @@
--- What a script writes.
+-- What a script writes. Read Runs, Line and Text first.
+-- d is a desk, l a line without its line feed, b a byte, c a command; bs are the bytes behind b, ls the lines behind l.
 use Rattle.std.specs.Prelude.{ℕ, Bool, ◌||◌, not, List, [], ◌∷◌, ◌++◌, length, nat_lt, ◌==◌, if◌then◌else◌, Option, Some, None, Ok, Err, is_err}
 use Rattle.std.specs.List.{list_any, filter_map}
 use Rattle.rh_defs.specs.declared.command.Command.{Command}

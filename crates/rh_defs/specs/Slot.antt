@@ -1,4 +1,7 @@
--- A slot: the C heap, the flex blocks above it, and whether budging is on.
+-- A slot: the C heap, the flex blocks above it, and whether budging is on. Read Chain and Heap first.
+-- s is a slot, k an anchor, n a number of bytes, free the number of free pages, b a cut at a block: b.before is below
+-- it. `-` of naturals stops at 0: an address below the C heap becomes 0 there, where no block is; a slot that doesn't
+-- get longer takes 0 pages (*lacks_room*). `_ ← refuse_if ..` counts for its refusal alone.
 use Rattle.std.specs.Prelude.{◌≢◌, ℕ, ◌+◌, ◌-◌, ◌<◌, ℤ, pos, negsuc, Bool, true, ◌&&◌, ◌||◌, not, nat_lt, nat_le, ◌==◌, List, [], ◌∷◌, ◌++◌, length, take, drop, Option, is_some, Ok}
 use Rattle.std.specs.List.{AllByRecursion}
 use Rattle.rh_defs.specs.declared.refusal.Refusal.TheVariants.{NoBlock, AnchorInUse, NotABlock, BadRange, BadSize, NoBudge, NoRoom}

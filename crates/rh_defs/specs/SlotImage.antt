@@ -1,4 +1,7 @@
--- The bytes that spell a slot: its anchor words, the C heap, and the flex blocks above it.
+-- The bytes that spell a slot: its anchor words, the C heap, and the flex blocks above it. Read Slot and HeapImage
+-- first. b is the bytes, s the slot, p the place of a block, f a flex block, k an anchor, or at most so many steps.
+-- Places count from the slot's first byte, addresses from 0: an address is *slot_start* above its place.
+-- `-` of naturals doesn't have to stop: *is_block* says first that the word is *slot_start* at least.
 use Rattle.std.specs.Prelude.{◌≡◌, ℕ, zero, suc, ◌+◌, ◌-◌, ◌*◌, ◌/◌, ◌%◌, ◌<◌, ◌≤◌, ◌==◌, Bool, nat_le, nat_lt, ◌&&◌, if◌then◌else◌, List, [], ◌∷◌, length}
 use Rattle.rh_defs.specs.Bytes.{word, part}
 use Rattle.rh_defs.specs.declared.sizes.TheConstants.{C_HEAP_PLACE}

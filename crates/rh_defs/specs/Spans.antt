@@ -1,4 +1,5 @@
--- The spans of live blocks: where each one lies in its slot.
+-- The spans of live blocks: where each one lies in its slot. Read Slot first.
+-- A place is an address here. s is a slot, h the module area's heap, b a flex block, a and b in *IsApart* are spans.
 use Rattle.std.specs.Prelude.{ℕ, ◌+◌, ◌≤◌, ◌⊎◌, List, [], ◌∷◌, ◌++◌, length}
 use Rattle.std.specs.List.{AllByRecursion}
 use Rattle.rh_defs.specs.Heap.{Heap, Segment, Used, Hole, first_place}

@@ -1,4 +1,5 @@
--- The text of a reply: its words, one space between them, and its later lines behind two spaces.
+-- The text of a reply: its words, one space between them, and its later lines behind two spaces. Read Questions first.
+-- w is a word, b a byte or a block's item, r a reply or a record's item, d a desk, q a question, c a command.
 use Rattle.std.specs.Prelude.{true, false, Bool, ◌&&◌, if◌then◌else◌, ℕ, List, [], ◌∷◌, ◌++◌, map, codes, Ok, Err}
 use Rattle.std.specs.List.{flat_map}
 use Rattle.std.specs.Fmt.{decimal, digits}

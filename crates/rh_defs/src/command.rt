@@ -212,7 +212,7 @@ impl Command {
         }
     }
 
-    /// The same of a command that names a flex block by its anchor.
+    /// Whether the parts of a command that names a flex block by its anchor are of the forms that a line can give them.
     #[tactic(auto, unfolding(crate::specs::Range::in_range))]
     fn block_in_range(&self) -> bool
         requires { names_anchor self.now ≡ true }

@@ -116,7 +116,7 @@ pub struct FileData {
 }
 
 impl FileData {
-    /// The same again, which takes no memory.
+    /// The data of the file once more, which takes no memory.
     pub fn copied(&self) -> FileData
         ensures { result ≡ self.now }
     {
@@ -164,7 +164,7 @@ impl Body {
         }
     }
 
-    /// The same again, which takes no memory.
+    /// The body once more, which takes no memory.
     pub fn copied(&self) -> Body
         ensures { result ≡ self.now }
     {
@@ -212,7 +212,7 @@ pub struct Letter {
 }
 
 impl Letter {
-    /// The same again, which takes no memory.
+    /// The letter once more, which takes no memory.
     pub fn copied(&self) -> Letter
         ensures { result ≡ self.now }
     {

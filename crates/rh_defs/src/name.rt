@@ -48,7 +48,7 @@ impl Name {
         self.letters.as_slice()
     }
 
-    /// The same name again, which takes no memory.
+    /// The name once more, which takes no memory.
     pub fn copied(&self) -> Name
         ensures { result ≡ self.now }
     {

@@ -54,7 +54,7 @@ impl Pathname {
         self.bytes.as_slice()
     }
 
-    /// The same name again, which takes no memory.
+    /// The name once more, which takes no memory.
     pub fn copied(&self) -> Pathname
         ensures { result ≡ self.now }
     {

@@ -114,13 +114,13 @@ SheetOver marked name d s Fault =
 abbrev pub sheet_name : List ℕ → List ℕ
 sheet_name script = if bytes_eq script (codes "-") then codes "standard input" else last_part script
 
--- the same by what is written of the script
+-- how replies, a map or a sheet of a script over a desk end
 abbrev pub ShownOver : Shown → List ℕ → Desk → Streams → ProgramEnd → Type 0
 ShownOver Replies script d s ending = RunOver d s ending
 ShownOver (Map marked) script d s ending = MapOver marked d s ending
 ShownOver (Sheet marked) script d s ending = SheetOver marked (sheet_name script) d s ending
 
--- the same streams, where some file of which nothing was read stands in the input's place
+-- the streams, where some file of which nothing was read stands in the input's place
 abbrev pub instead : Option (List ℕ) → Input → Streams → Streams
 instead left rest s = record s { before = record { left = left; failed = false; reads = 0 }; after = rest }
 

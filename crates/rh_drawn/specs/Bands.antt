@@ -23,7 +23,7 @@ abbrev pub card_of_task : Scene → Option Task → ℕ → Segment → Card
 card_of_task x None address segment = hole_card address 0
 card_of_task x (Some t) address segment = heap_card x t address segment
 
--- the same of either heap
+-- the card of a segment of a task's heap, or of the module area's, at an address
 abbrev pub card_for : Scene → Desk → HeapOf → ℕ → Segment → Card
 card_for x d (heap_of.Task i) = card_of_task x (slice_get d.tasks i)
 card_for x d heap_of.Module = module_card x

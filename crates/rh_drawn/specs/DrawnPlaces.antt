@@ -37,11 +37,11 @@ pub record Drew {D : Type 0} (desk : D → Desk) (m : Mapper D) (line : Text) (m
   pub text_is : text ≡ written_lines (lines_of_read m.marked share (place_in desk m) (line, meaning))
   pub follows : Follows desk m (line, meaning) n
 
--- the same of a complete line
+-- the mapper drew a complete line
 abbrev pub TookLine : {D : Type 0} → (D → Desk) → Mapper D → List ℕ → Mapper D → List ℕ → Type 0
 TookLine desk m line n text = Drew desk m line (line_means line) n text
 
--- the same of what stands behind the last line feed, which may be nothing
+-- the mapper drew what stands behind the last line feed, or wrote nothing and stayed where that is nothing
 abbrev pub TookRest : {D : Type 0} → (D → Desk) → Mapper D → List ℕ → Mapper D → List ℕ → Type 0
 TookRest desk m [] n text = (n ≡ m) × (text ≡ [])
 TookRest desk m (b ∷ bs) n text = Drew desk m (b ∷ bs) (rest_means (b ∷ bs)) n text

@@ -129,7 +129,7 @@ pub fn find_slid(kept: &Kept, blocks: &[BlockItem]) -> Option<Slid>
     found
 }
 
-/// The same blocks, and this one if it lies elsewhere now.
+/// The blocks that were found, and this one if it lies elsewhere now.
 fn with_block(found: Option<Slid>, kept: &Kept, block: &BlockItem) -> Option<Slid>
     requires { IfSome found (λ slid. slid.count < ANCHORS) }
     ensures { (slides : List Slide) → found ≡ summary_of slides → result

@@ -358,7 +358,7 @@ fn show_message<S: Sight, A: CardArtist, P: Pen>(
     artist.message_card(at, &card, pen);
 }
 
-/// The same place, as a card has it.
+/// A message's place, as a card has it.
 fn chain_place(place: Place) -> ChainPlace
     ensures { place_text result ≡ place_seen place }
 {

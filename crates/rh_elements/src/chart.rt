@@ -217,7 +217,7 @@ fn words_aside(waits: bool) -> u32
     if waits { STUB_ASIDE } else { WORDS_ASIDE }
 }
 
-/// The same downwards.
+/// How far from an arrow's beginning its words stand, downwards.
 fn words_down(waits: bool) -> u32
     ensures value { result ≡ down_of_words waits }
     ensures few { result ≤ WORDS_DOWN }

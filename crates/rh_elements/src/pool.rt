@@ -31,7 +31,7 @@ fn cell_x(k: u32) -> u32
     LEFT + CELL * (k % POOL_COLUMNS)
 }
 
-/// The same from above.
+/// Where the square of page k begins, from above.
 fn cell_y(k: u32) -> u32
     requires { k < 2 ^ 16 }
     ensures value { result ≡ y_of_cell k }

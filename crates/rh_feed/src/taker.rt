@@ -12,7 +12,7 @@ pub trait LineTaker: Drop {
     // What taking a line does: from a taker and a line to the taker behind it and the text that is written.
     ghost took: { Self → List ℕ → Self → List ℕ → Type 0 };
 
-    // The same of what stands behind the last line feed, which may be nothing.
+    // What taking the bytes behind the last line feed does, which may be none.
     ghost took_rest: { Self → List ℕ → Self → List ℕ → Type 0 };
 
     // How many more lines there is room for.

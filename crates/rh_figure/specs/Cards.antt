@@ -1,4 +1,5 @@
--- Cards: what may be too small for its scale, written out.
+-- Cards: what may be too small for its scale, written out. Read Scene first.
+-- x is the scene, t a task, r a record, b a flex block, place an address.
 use Rattle.std.specs.Prelude.{ℕ, ◌+◌, ◌-◌, ◌==◌, nat_le, Bool, false, if◌then◌else◌, List, [], ◌∷◌, ◌++◌, length, take, drop, filter, find, codes, Option, Some, None}
 use Rattle.std.specs.List.{concat}
 use Rattle.std.specs.Fmt.{decimal}

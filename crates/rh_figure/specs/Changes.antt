@@ -1,4 +1,5 @@
--- What a command has changed, in words.
+-- What a command has changed, in words. Read Scene first.
+-- x is the scene, o an owner with its number of pages, k an anchor, n a number of a page, b a flex block.
 use Rattle.std.specs.Prelude.{ℕ, ◌-◌, ◌==◌, nat_lt, ◌&&◌, not, Bool, if◌then◌else◌, List, [], ◌∷◌, ◌++◌, length, drop, map, filter, find, codes, Option, Some, None}
 use Rattle.std.specs.List.{list_any, flat_map, concat}
 use Rattle.std.specs.Fmt.{decimal}

@@ -1,4 +1,5 @@
--- A figure: all that a picture shows of a desk.
+-- A figure: all that a picture shows of a desk. Read Scene, Layout and Cards first.
+-- x is the scene, k the number of a page, t a task, o an owner.
 use Rattle.std.specs.Prelude.{ℕ, ◌==◌, nat_le, nat_lt, ◌||◌, not, Bool, false, if◌then◌else◌, List, [], ◌∷◌, ◌++◌, length, take, map, filter, find, codes, Option, Some, None}
 use Rattle.std.specs.List.{list_any, flat_map, concat, join_by, enumerate_from, range_with_len}
 use Rattle.std.specs.Fmt.{decimal}

@@ -1,4 +1,5 @@
--- What holds of every picture.
+-- What holds of every picture. Read Map and Whole first. d, a and b are desks, t is a task, x a scene, b a byte of a
+-- line.
 use Rattle.std.specs.Prelude.{◌≡◌, ℕ, ◌*◌, ◌<◌, ◌≤◌, Bool, true, List, [], length, Some}
 use Rattle.std.specs.List.{AllByRecursion}
 use Rattle.rh_defs.specs.Bytes.{space}
@@ -20,7 +21,7 @@ use Rattle.rh_figure.specs.declared.limits.TheConstants.{MAP_COLUMNS}
 abbrev pub HasTiledSlot : Task → Type 0
 HasTiledSlot t = (x : Scene) → Tile 0 (page_size * slot_pages t.slot) (slot_pieces x t.handle t.slot)
 
--- the same of all slots, and of the module area
+-- whatever is marked, the pieces of each slot and of the module area are its bytes from the first to the last one
 pub record HasTiledAreas (d : Desk) : Type 0 where
   pub slots : AllByRecursion HasTiledSlot d.tasks
   pub module_area :

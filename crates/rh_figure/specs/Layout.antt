@@ -1,4 +1,6 @@
--- The pieces of an area: its bytes, one thing after the other.
+-- The pieces of an area: its bytes, one thing after the other. Read Scene first.
+-- Offsets count from the area's first byte. x is the scene, g the legend of a heap, p an offset or a piece, s a
+-- segment, h a heap or a handle, k an anchor, n a size.
 use Rattle.std.specs.Prelude.{◌≡◌, ℕ, ◌+◌, ◌-◌, ◌*◌, ◌==◌, ◌&&◌, ◌||◌, not, Bool, false, List, [], ◌∷◌, ◌++◌, length, take, drop, Option, Some, None}
 use Rattle.std.specs.List.{list_any}
 use Rattle.rh_defs.specs.declared.question.BlockItem.{BlockItem}
@@ -72,7 +74,7 @@ abbrev pub is_changed_block : Option ℕ → List BlockItem → ℕ → ℕ → 
 is_changed_block put before k n =
     is_put k put || not (list_any (λ (b : BlockItem). b.anchor == k && b.size == n) before)
 
--- the same of a block of the named task
+-- whether the block with an anchor and a size is the named task's, and is changed
 abbrev pub is_fresh_flex : Scene → ℕ → ℕ → ℕ → Bool
 is_fresh_flex x h k n = h == x.marks.handle && is_changed_block x.marks.put x.before.blocks k n
 

@@ -1,4 +1,5 @@
 -- What `map` writes: after each command of a script its reply, what has changed, and the figure, as lines.
+-- Read Figure and Rows first. c is a card, g a drawing, p a panel, b a letterbox, t a transfer, f a figure, l a line.
 use Rattle.std.specs.Prelude.{ℕ, ◌+◌, ◌-◌, ◌==◌, nat_le, nat_lt, ◌&&◌, ◌||◌, not, Bool, false, if◌then◌else◌, List, [], ◌∷◌, ◌++◌, length, take, map, codes, Option, Some, None, Ok, Err}
 use Rattle.std.specs.List.{flat_map, concat}
 use Rattle.std.specs.Str.{bytes_eq}

@@ -1,4 +1,6 @@
--- The words of a picture.
+-- The words of a picture. Read Text of rh_defs first. t is a text, n a number, h a handle, k the number of an area, d a
+-- desk. `-` of naturals doesn't have to stop: a text is cut only to at least 2 bytes, and a list has more than
+-- *MOST_LISTED*.
 use Rattle.std.specs.Prelude.{ℕ, ◌-◌, ◌==◌, nat_le, nat_lt, Bool, true, false, if◌then◌else◌, List, [], ◌∷◌, ◌++◌, length, take, filter, not, codes, Option, Some, None}
 use Rattle.std.specs.List.{concat, join_by}
 use Rattle.std.specs.Fmt.{decimal}
@@ -20,7 +22,7 @@ Text = List ℕ
 abbrev pub cut : ℕ → Text → Text
 cut n t = if nat_le (length t) n then t else take (n - 2) t ++ codes ".."
 
--- the same, where the condition holds, else no text
+-- the text where the condition holds, else no text
 abbrev pub where_so : Bool → Text → Text
 where_so b t = if b then t else []
 

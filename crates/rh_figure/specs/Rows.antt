@@ -1,4 +1,6 @@
--- Areas and the pool as rows of characters: a row is a page of an area, or 64 pages of the pool.
+-- Areas and the pool as rows of characters: a row is a page of an area, or 64 pages of the pool. Read Figure first.
+-- t is a text, b a byte and bs those behind it, i the number of a row or a place, k the number of an area, h a handle.
+-- `-` of naturals stops at 0: a text longer than its column gets no space before it (*to_right*).
 use Rattle.std.specs.Prelude.{ℕ, zero, suc, ◌+◌, ◌-◌, ◌*◌, ◌/◌, ◌%◌, ◌==◌, nat_le, nat_lt, min, ◌&&◌, ◌||◌, Bool, true, false, if◌then◌else◌, List, [], ◌∷◌, ◌++◌, length, take, drop, map, filter, find, replicate, slice_index, codes, Option, Some, None}
 use Rattle.std.specs.List.{range_with_len, position}
 use Rattle.std.specs.Fmt.{decimal}

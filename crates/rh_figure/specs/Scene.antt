@@ -1,4 +1,5 @@
--- What a picture is drawn from: a desk after a command, and what is kept of the desk before it.
+-- What a picture is drawn from: a desk after a command, and what is kept of the desk before it. Read Share first.
+-- d is a desk, c the command, t a task, h a handle, s a share of the pool, b what is kept, x the whole scene.
 use Rattle.std.specs.Prelude.{ℕ, ◌==◌, nat_lt, ◌||◌, Bool, true, false, if◌then◌else◌, List, [], ◌∷◌, ◌++◌, filter, find, Option, Some, None}
 use Rattle.std.specs.List.{flat_map}
 use Rattle.rh_defs.specs.declared.command.Command.{Command}

@@ -1,4 +1,5 @@
 -- Which page of the pool belongs to whom. A desk knows how many pages each owner has; a share says which.
+-- Read Desk of rh_defs first. d is a desk, o an owner, s a share, k the number of a page, x one owner's holding.
 use Rattle.std.specs.Prelude.{◌≡◌, ℕ, ◌+◌, ◌<◌, ◌==◌, Bool, false, if◌then◌else◌, List, [], ◌∷◌, ◌++◌, length, map}
 use Rattle.std.specs.List.{enumerate_from}
 use Rattle.rh_defs.specs.Pieces.{total}

@@ -1,4 +1,5 @@
--- A whole map, whichever page is whose.
+-- A whole map, whichever page is whose. Read Map first. A stage is a line with its meaning, and the share of the pool
+-- behind it; p is the place in the script before a line, r the line, s the share.
 use Rattle.std.specs.Prelude.{◌≡◌, ℕ, Bool, List, [], ◌∷◌, map}
 use Rattle.rh_figure.specs.Share.{IsShared}
 use Rattle.rh_figure.specs.Map.{Place, Read, Stage, after_read, map_lines, written_lines}

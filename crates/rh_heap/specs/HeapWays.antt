@@ -11,7 +11,7 @@ use Rattle.rh_heap.specs.declared.span.resize.Way.TheVariants as way
 use Rattle.rh_heap.specs.HeapSpans.{heap_in, SpellsHeapIn}
 use Rattle.rh_heap.specs.declared.layout.TheConstants.{BLOCK}
 
--- the same way
+-- a way of the code is this way of the definitions
 pub data WayIs : heap.Way → Way → Type 0 where
   stays : WayIs heap.Stays way.Stays
   shrinks : WayIs heap.Shrinks way.Shrinks

@@ -102,7 +102,7 @@ pub fn check(image: &[u8]) -> Result<Summary, HeapFault>
     check_segments(image, base)
 }
 
-/// The same, place by place, where the descriptor and the link to the first hole are right.
+/// Checks an image place by place, where the descriptor and the link to the first hole are right.
 fn check_segments(image: &[u8], base: usize) -> Result<Summary, HeapFault>
     requires descriptor { has_descriptor image.now ≡ true }
     requires at_base { base ≡ word image.now HEAP_BASE }

@@ -33,7 +33,7 @@ pub fn forget(
     }
 }
 
-/// The same where the area's map may reach so far.
+/// Says of an area's map that it isn't up to date, where the map may reach up to the bytes from `low` up to `upper`.
 #[inline(never)]
 fn forget_met(maps: &mut Vec<Option<Map>>, id: usize, low: usize, upper: usize)
     ensures { Forgot maps.old.items maps.new.items id low upper }

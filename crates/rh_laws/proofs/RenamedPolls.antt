@@ -20,7 +20,7 @@ use Rattle.rh_defs.specs.Post.{sendable}
 use Rattle.rh_defs.specs.Sender as sender
 use Rattle.rh_defs.specs.Receiver as receiver
 use Rattle.rh_defs.specs.Places.{overlap, first_bytes}
-use Rattle.rh_defs.specs.OutgoingEvents.{is_out_of_reach, scrap_shortage, wider}
+use Rattle.rh_defs.specs.OutgoingEvents.{is_bad_range, scrap_shortage, wider}
 use Rattle.rh_defs.proofs.Follows.{or_else-follows, chosen-both}
 use Rattle.rh_laws.specs.Renaming.{renamed_slot, renamed_task, renamed_scrap, renamed}
 use Rattle.rh_laws.proofs.RenamedParts.{By, follows-by, found-by}
@@ -35,7 +35,7 @@ use Rattle.rh_laws.proofs.RenamedDesks.{with_slot-renamed, delivered-renamed, se
 abbrev transmit_of : Desk → Task → Transmit → Part → ℕ → List ℕ → Granted Handled
 transmit_of d t a p place bytes = do
   r ← found_or (task_at a.transfer.recipient d) NoTask
-  refuse_if (is_out_of_reach t r a.buffer a.room place p.n) BadRange
+  refuse_if (is_bad_range t r a.buffer a.room place p.n) BadRange
   sent ← send_letter (transmit_letter t.handle a p) d
   Ok (
     with_sending t.handle (sender.sent a p (next_ref d))
@@ -71,8 +71,8 @@ module _ (f : ℕ → ℕ) (zero-is : f 0 ≡ 0) where
 
   -- ---- the sender
 
-  reach-renamed : (t r : Task) (buffer amount place n : ℕ) → is_out_of_reach (renamed_task f t) (renamed_task f r) buffer amount place n
-      ≡ is_out_of_reach t r buffer amount place n
+  reach-renamed : (t r : Task) (buffer amount place n : ℕ) → is_bad_range (renamed_task f t) (renamed_task f r) buffer amount place n
+      ≡ is_bad_range t r buffer amount place n
   reach-renamed t r buffer amount place n =
       ap (λ o. not (is_some o) && (not (holds buffer amount (renamed_slot f r.slot)) || (t.handle == r.handle && overlap buffer amount place n)))
       (buffer_at-renamed f buffer amount r.slot)

@@ -1,4 +1,6 @@
--- Whom each transfer was offered to, and by whom.
+-- Whom each transfer was offered to, and by whom. Read Offered and Held of rh_safety first.
+-- d is a desk, a a map from ids to the two tasks, k an anchor, h, s and r are handles, of a sender and a receiver where
+-- s and r are; id and ref are refs of a DataSave. r is a reply where one command is followed (*addresses_next*).
 use Rattle.std.specs.Prelude.{◌≡◌, ℕ, List, [], ◌∷◌, find, Option, Some, None}
 use Rattle.std.specs.List.{Contains}
 use Rattle.rh_defs.specs.declared.message.Body.{Body}
@@ -47,7 +49,7 @@ abbrev pub addressed_again : Addresses → ℕ → ℕ → Body → Addresses
 addressed_again a ref old (body.DataSave f) = at_place a ref (a old)
 addressed_again a ref old _ = a
 
--- the same of the letter that a task sent last, where it sent one
+-- the letter that a task sent last, where it sent one, is sent again: a DataSave is of the tasks of the old one
 abbrev pub addressed_last : Addresses → ℕ → Option (Letter × ℕ) → Addresses
 addressed_last a ref None = a
 addressed_last a ref (Some last) = addressed_again a ref last.1 last.0.body

@@ -1,4 +1,7 @@
 -- The blocks of a task's C heap: those that it claimed and hasn't released, and the buffers of its transfers.
+-- Read Offered of rh_safety first, for *at_place*, and Slot of rh_defs.
+-- c is a map from handles and addresses to sizes, d a desk, h a handle, n a size, r a reply, s a slot, t a task.
+-- *claims_next* follows one command by its reply, *claims_from* all commands.
 use Rattle.std.specs.Prelude.{◌≡◌, ℕ, ◌+◌, ℤ, true, false, List, [], ◌∷◌, length, filter, find, Option, Some, None}
 use Rattle.std.specs.Option.{option_map}
 use Rattle.rh_defs.specs.declared.command.Command.{Command}

@@ -1,4 +1,7 @@
 -- For each command the conditions under which it is refused, in the one order: questions of the desk before it.
+-- Read RefusalOrder and RefusalRooms first. d is the desk, t a task, k an anchor or the number of an area, n and m are
+-- sizes. No step of Commands is named here: each row tells a refusal, and a test of the desk. `-` of naturals stops at
+-- 0: an address below a heap becomes 0 there, where no block is.
 use Rattle.std.specs.Prelude.{◌≡◌, ℕ, ℤ, ◌+◌, ◌-◌, Bool, true, false, not, ◌&&◌, ◌||◌, nat_lt, nat_le, ◌==◌, List, [], ◌∷◌, length, filter, find, Option, Some, None, is_some, is_none}
 use Rattle.std.specs.List.{list_any}
 use Rattle.rh_defs.specs.Forms.{last_made}
@@ -61,7 +64,7 @@ of_block k name d test =
 abbrev pub lacks_room_with : ℕ → Task → Desk → Bool
 lacks_room_with n t d = outgrows (slot_length t.slot + flex_weight n) t.slot d
 
--- the same with m bytes in the place of a block of n bytes
+-- the slot with m bytes in the place of a block of n bytes takes more pages than it has and are free
 abbrev pub lacks_room_from : ℕ → ℕ → Task → Desk → Bool
 lacks_room_from n m t d = outgrows ((slot_length t.slot + flex_weight m) - flex_weight n) t.slot d
 

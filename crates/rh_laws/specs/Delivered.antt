@@ -1,4 +1,6 @@
--- What a sender may rely on that was told that its file was loaded.
+-- What a sender may rely on that was told that its file was loaded. Read Counts of rh_safety first.
+-- d is a desk, x the sender's open record, id the transfer, h the receiver's handle, t its task, w a record that comes
+-- in.
 use Rattle.std.specs.Prelude.{◌≡◌, ℕ, true, List, ◌∷◌, ◌++◌, length, find, Some}
 use Rattle.std.specs.List.{Contains}
 use Rattle.std.specs.Option.{option_map}

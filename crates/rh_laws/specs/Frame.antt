@@ -1,4 +1,5 @@
--- What a command leaves of the tasks that it isn't of.
+-- What a command leaves of the tasks that it isn't of. Read Named of rh_defs and TaskRecords of rh_safety first.
+-- d is a desk, c a command, h a handle, t a task, n a number of bytes.
 use Rattle.std.specs.Prelude.{◌≡◌, ◌≢◌, ◌⊎◌, ℕ, ◌-◌, ◌≤◌, min, List, length, take, drop, find, Option, Some, None}
 use Rattle.std.specs.List.{Contains}
 use Rattle.std.specs.Option.{option_map}

@@ -1,4 +1,5 @@
 -- What the description of a heap promises: which claims are granted without growth, and how the heap's bytes add up.
+-- Read Heap and Questions of rh_defs first. h is a heap, d a desk, n a size, t a task.
 use Rattle.std.specs.Prelude.{◌≡◌, ℕ, ◌+◌, ◌≤◌, Bool, false, ◌&&◌, nat_le, ◌==◌, List, length, is_none, is_ok}
 use Rattle.std.specs.List.{AllByRecursion}
 use Rattle.rh_defs.specs.declared.command.Command.TheVariants as command
@@ -29,7 +30,7 @@ pub record IsHonest (h : Heap) : Type 0 where
   pub claims : (n : ℕ) → is_ok (claim_block n h) ≡ (nat_le 1 n && nat_le n (largest h))
   pub sums : first_place + used_bytes h + free_bytes h ≡ h.end
 
--- the same of every heap
+-- every heap's description is honest
 abbrev pub AreHonest : Type 0
 AreHonest = (h : Heap) → IsHeap h → IsHonest h
 

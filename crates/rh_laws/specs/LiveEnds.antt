@@ -1,5 +1,7 @@
--- No record waits in vain: a message of its task that asks for what comes next is queued or held, or the answer to that message
--- is queued.
+-- No record waits in vain: a message of its task that asks for what comes next is queued or held, or the answer to that
+-- message is queued. Read Transfer of rh_defs and Alternation of rh_safety first.
+-- h and other are the handles of the two ends, ref is that of the message, p a message in its block, room the size of a
+-- buffer, n a number of bytes. Asks and Answers say what of the body must hold.
 use Rattle.std.specs.Prelude.{◌≡◌, ◌⊎◌, ℕ, ◌≤◌, false, Some}
 use Rattle.std.specs.List.{Contains}
 use Rattle.rh_defs.specs.declared.command.Manner.{Manner}

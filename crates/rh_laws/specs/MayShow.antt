@@ -1,4 +1,6 @@
 -- Whose the bytes are that a task shows: it put or loaded them, or they stood in a block when that was offered to it.
+-- Read Offered of rh_safety first. may is a map from handles to bytes, d a desk, k an anchor, h a handle, t a task, r a
+-- reply. *may_show_next* follows one command by its reply, *may_show_from* all commands.
 use Rattle.std.specs.Prelude.{[], find, List, map, Ok, Option, Some, true, ℕ, ◌++◌, ◌∷◌, ◌≡◌, ◌≤◌}
 use Rattle.std.specs.List.{AllByRecursion, Contains}
 use Rattle.rh_defs.specs.declared.command.Command.{Command}
@@ -61,7 +63,7 @@ abbrev pub may_show_from : MayShow → Desk → List Command → MayShow
 may_show_from may d [] = may
 may_show_from may d (c ∷ commands) = may_show_from (may_show_next may d c (step d c).1) (step d c).0 commands
 
--- the same in a run of the commands from the desk: at first 0 alone
+-- what each task may show after a run of the commands from the desk: at first 0 alone
 abbrev pub may_show : Desk → List Command → MayShow
 may_show d commands = may_show_from (λ h. 0 ∷ []) d commands
 

@@ -1,4 +1,5 @@
--- The line that is printed for a command, and which commands a line can spell.
+-- The line that is printed for a command, and which commands a line can spell. Read Grammar, Line and Range of rh_defs
+-- first. c is a command, n a number.
 use Rattle.std.specs.Prelude.{ℕ, ◌≡◌, ◌≤◌, ◌^◌, Bool, true, ◌&&◌, nat_le, nat_lt, if◌then◌else◌, List, [], ◌∷◌, ◌++◌, length, Some, None, Ok, IsTrue}
 use Rattle.std.specs.List.{list_all, join_with_byte}
 use Rattle.std.specs.Fmt.{decimal, signed_decimal}
@@ -26,7 +27,7 @@ form_text (Choice first second) is_first = (if is_first then first else second) 
 form_text (Maybe form) None = []
 form_text (Maybe form) (Some value) = form_text form value
 
--- the same for the values of all forms
+-- the words of the values of all forms
 abbrev pub texts : (forms : List Form) → Values forms → Words
 texts [] values = []
 texts (form ∷ forms) values = form_text form values.0 ++ texts forms values.1
@@ -57,16 +58,16 @@ is_sized Bytes bytes = list_all (λ b. nat_lt b 256) bytes
 is_sized (Maybe form) (Some value) = is_sized form value
 is_sized form value = true
 
--- the same of the values of all forms
+-- whether each value is no greater than its type lets it be
 abbrev pub are_sized : (forms : List Form) → Values forms → Bool
 are_sized [] values = true
 are_sized (form ∷ forms) values = is_sized form values.0 && are_sized forms values.1
 
--- the same of those of a spelling
+-- whether each value of a spelling is no greater than its type lets it be
 abbrev pub is_typed : Spelling → Bool
 is_typed (spelled_by row values) = are_sized row.forms values
 
--- the same of a command's
+-- whether each value of a command is no greater than its type lets it be
 unfoldable pub has_sizes : Command → Bool
 has_sizes c = is_typed (spelling c)
 

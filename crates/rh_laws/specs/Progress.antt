@@ -1,4 +1,7 @@
 -- Polls alone come to rest: what is left to do at a desk, as a number, and that each message taken makes it less.
+-- Read Transfer of rh_defs first. d is a desk, t a task, s a seat or a slot, p a message in its block, b a body, x an
+-- open transfer. `-` of naturals stops at 0: a source of no more bytes than its record counts leaves no byte
+-- (*source_work*).
 use Rattle.std.specs.Prelude.{◌≡◌, ℕ, ◌+◌, ◌-◌, ◌*◌, ◌≤◌, Bool, true, false, List, [], length, map, filter, Option, Some, None}
 use Rattle.std.specs.List.{AllByRecursion, Contains, flat_map}
 use Rattle.rh_defs.specs.declared.command.Command.{Command}
@@ -43,7 +46,7 @@ work_queued User b = work_ahead b
 work_queued Recorded b = work_ahead b
 work_queued Acknowledge b = work_back b
 
--- the same of a parcel
+-- after a message that is queued in its block
 abbrev pub parcel_work : Parcel → ℕ
 parcel_work p = work_queued p.code p.message.body
 

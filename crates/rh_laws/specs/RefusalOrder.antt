@@ -1,4 +1,5 @@
--- The one order of refusals, and the first condition of a list that holds.
+-- The one order of refusals, and the first condition of a list that holds. Nothing is to be read before but Refusal.
+-- row.0 is a refusal, row.1 says whether its condition holds; r is a refusal.
 use Rattle.std.specs.Prelude.{ℕ, Bool, true, ◌&&◌, nat_lt, if◌then◌else◌, List, [], ◌∷◌, Option, Some, None}
 use Rattle.rh_defs.specs.declared.refusal.Refusal.{Refusal}
 use Rattle.rh_defs.specs.declared.refusal.Refusal.TheVariants as refusal

@@ -1,4 +1,6 @@
--- Where there is no room: what a heap, an area or a message is short of.
+-- Where there is no room: what a heap, an area or a message is short of. Read Heap, Slot and Commands of rh_defs first.
+-- d is a desk, h a heap, b a cut at a block, s a slot, g a segment, t the size of a segment, n that of a block, k the
+-- number of an area. `-` of naturals stops at 0: a heap that is long enough is short of nothing.
 use Rattle.std.specs.Prelude.{ℕ, ◌+◌, ◌-◌, ◌*◌, ℤ, pos, negsuc, Bool, ◌||◌, nat_lt, nat_le, ◌==◌, if◌then◌else◌, List, [], ◌∷◌, length, slice_index, find, Option, Some}
 use Rattle.std.specs.Option.{option_map}
 use Rattle.rh_defs.specs.declared.message.Body.{Body}
@@ -50,7 +52,7 @@ short_for n b h =
 abbrev pub file_message_size : ℕ → ℕ
 file_message_size n = 52 + round_up 4 (n + 1)
 
--- the same of each message: one about a buffer takes 9 words
+-- the bytes of the block of each message: one about a buffer takes 9 words
 abbrev pub message_size : Body → ℕ
 message_size (DataSave f) = file_message_size (length f.name)
 message_size (DataSaveAck f) = file_message_size (length f.name)

@@ -1,4 +1,6 @@
--- A desk, its files and its commands with each byte renamed by one function.
+-- A desk, its files and its commands with each byte renamed by one function. Read Commands of rh_defs first.
+-- f is the function, which leaves 0 as it is; d is a desk, c a command, q a question, b a flex block, h a heap, s a
+-- slot, t a task, l what an answer lists.
 use Rattle.std.specs.Prelude.{◌≡◌, ℕ, ◌||◌, ◌==◌, Bool, true, false, List, map, Ok, Err}
 use Rattle.std.specs.List.{list_any, AllByRecursion}
 use Rattle.std.specs.Option.{option_map}
@@ -88,7 +90,7 @@ StepsRenamed =
 abbrev pub ShowsRenamed : Type 0
 ShowsRenamed = (f : ℕ → ℕ) → f 0 ≡ 0 → (d : Desk) (q : Question) → asked (renamed f d) q ≡ renamed_told f (asked d q)
 
--- the same of the pieces in which a block is shown
+-- of the renamed desk each piece in which a block is shown has the renamed bytes
 abbrev pub PiecesRenamed : Type 0
 PiecesRenamed =
     (f : ℕ → ℕ) → f 0 ≡ 0 → (d : Desk) (name : List ℕ) (k offset n : ℕ) →

@@ -1,5 +1,6 @@
--- What polls alone leave of transfers once nothing is queued or held: no record that comes in goes on, and what is still open
--- was only offered, by a task that answers no fetch.
+-- What polls alone leave of transfers once nothing is queued or held: no record that comes in goes on, and what is
+-- still open was only offered, by a task that answers no fetch. Read Progress first.
+-- d is a desk, h a handle, t its task, x an open transfer that goes out, w a record that comes in.
 use Rattle.std.specs.Prelude.{◌≡◌, ℕ, ◌≤◌, true, false, List, length, Some}
 use Rattle.std.specs.List.{AllByRecursion, Contains}
 use Rattle.rh_defs.specs.declared.transfer.Incoming.{Incoming}

@@ -1,4 +1,6 @@
--- Two tasks that are polled in turn bring a transfer by way of the scrap file to its end.
+-- Two tasks that are polled in turn bring a transfer by way of the scrap file to its end. Read Alternation of rh_safety
+-- first. r is the name of the receiver, s that of the sender, hr and hs are their handles, k is the source's anchor, id
+-- the transfer.
 use Rattle.std.specs.Prelude.{◌≡◌, ◌≢◌, ℕ, true, List, [], find, Some, None}
 use Rattle.std.specs.List.{AllByRecursion}
 use Rattle.rh_defs.specs.Post.{Seat}

@@ -1,5 +1,7 @@
--- What a sender's Done means: each record of the transfer is Done with the same count, or Failed, or the last bytes are on
--- their way to it.
+-- What a sender's Done means: each record of the transfer is Done with the same count, or Failed, or the last bytes are
+-- on their way to it. Read Progress first.
+-- d is a desk, s the sender's handle and t its task, r the receiver or its handle and u its task, n the sender's count,
+-- f a transfer that has a buffer, p a message in its block, w a record that comes in.
 use Rattle.std.specs.Prelude.{◌≡◌, ℕ, ◌+◌, ◌<◌, ◌≤◌, true, List, length, Some}
 use Rattle.std.specs.List.{AllByRecursion, Contains}
 use Rattle.rh_defs.specs.declared.message.EventCode.TheVariants.{User}

@@ -20,8 +20,8 @@ before_of t = t.before.bytes
 abbrev pub whole_text : WholeText → List ℕ
 whole_text t = take t.taken t.bytes.now ++ t.beyond.bytes
 
--- The same behind the name of the loan and the bytes as they were before. No write changes these, so that a caller of
--- what writes knows by them that the bytes are still the ones that it lent.
+-- All that was offered, behind the name of the loan and the bytes as they were before. No write changes these: a
+-- caller of what writes knows by them that the bytes are still the ones that it lent.
 unfoldable pub output_of : WholeText → Output
 output_of t = record {
   taken = Some (t.bytes.ghost_name ∷ length (before_of t) ∷ (before_of t ++ whole_text t));

@@ -25,8 +25,8 @@ pub fn parse_line(line: &[u8]) -> Result<Option<Command>, LineFault>
     }
 }
 
-/// The same as `parse_line`, but a command is put in a place that is there, and what is answered is whether the line
-/// has one. Where it has none, or a fault, the place keeps its command.
+/// Reads a line as `parse_line` does, but puts a command in a place that is there, and answers whether the line has
+/// one. Where it has none, or a fault, the place keeps its command.
 #[tactic(auto, using(crate::proofs::LineLemmas::by_words), unfolding(rh_defs::specs::Chain::computing, rh_defs::specs::Line::line_means))]
 pub fn read_line(line: &[u8], command: &mut Command) -> Result<bool, LineFault>
     ensures means { if_placed result command.new ≡ line_means line.now }

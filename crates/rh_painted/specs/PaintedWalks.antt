@@ -55,7 +55,7 @@ pub record PaintedLine {D : Type 0} (desk : D → Desk) (m : Painter D) (line : 
   pub text_is : text ≡ read_text m.marked share (walk_in desk m) (line, meaning)
   pub follows : FollowsPainting desk m share (line, meaning) n
 
--- the same of a complete line
+-- the painter painted a complete line
 abbrev pub TookPaintedLine : {D : Type 0} → (D → Desk) → Painter D → List ℕ → Painter D → Text → Type 0
 TookPaintedLine desk m line n text = PaintedLine desk m line (line_means line) n text
 

@@ -100,7 +100,7 @@ fn slot_owner<S: Sight>(sight: &S, i: usize) -> Option<OwnerSight<'_>>
 }
 
 impl<'a> Named<'a> {
-    /// The same owner, as what is kept of a desk has it.
+    /// The owner, as what is kept of a desk has it.
     pub fn owner(&self) -> Owner
         ensures { shared_owner result ≡ who_seen self.now }
     {

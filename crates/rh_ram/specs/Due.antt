@@ -21,12 +21,12 @@ use Rattle.rh_defs.specs.Sender.{transfer_of}
 abbrev pub is_same_sending : Sending → Sending → Bool
 is_same_sending x y = x.id == y.id && x.recipient == y.recipient && x.anchor == y.anchor && x.count == y.count && x.last == y.last
 
--- the same of transfers that come in through a buffer
+-- whether two transfers that come in through a buffer are the same in all that is kept of them
 abbrev pub is_same_taking : Taking → Taking → Bool
 is_same_taking f g =
     f.id == g.id && f.sender == g.sender && f.anchor == g.anchor && f.buffer == g.buffer && f.count == g.count && f.fetch == g.fetch
 
--- the same of transfers that wait for a file
+-- whether two transfers that wait for a file are the same in all that is kept of them
 abbrev pub is_same_asked : Asked → Asked → Bool
 is_same_asked p q = p.id == q.id && p.sender == q.sender && p.anchor == q.anchor && p.ack == q.ack
 

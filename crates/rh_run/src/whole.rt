@@ -48,7 +48,7 @@ pub fn replies_of<S: Store + Drop, F: NamedFiles + Drop, W: Sink>(
     run_whole(ScriptWorld::new(store, files), script, writer)
 }
 
-/// The same of its map: each step, or marked steps alone.
+/// Runs a script over a fresh desk, as `replies_of` does, and writes its map: each step, or marked steps alone.
 pub fn map_of<S: Sited + Drop, F: NamedFiles + Drop, W: Sink>(
     store: S,
     files: F,
@@ -73,7 +73,8 @@ pub fn map_of<S: Sited + Drop, F: NamedFiles + Drop, W: Sink>(
     map_whole(ScriptWorld::new(store, files), marked, script, writer)
 }
 
-/// The same of the sheet of a script with a name: its beginning, and each step, or marked steps alone.
+/// Runs a script over a fresh desk, as `replies_of` does, and writes its sheet under a name: the beginning, and each
+/// step, or marked steps alone.
 pub fn sheet_of<S: Sited + Drop, F: NamedFiles + Drop, W: Sink>(
     store: S,
     files: F,

@@ -28,7 +28,7 @@ use Rattle.rh_defs.specs.Post.{most_messages, live_count, sendable}
 use Rattle.rh_defs.specs.Slot.{lacks_room, length_with, holds}
 use Rattle.rh_defs.specs.Sender as sender
 use Rattle.rh_defs.specs.Places.{overlap}
-use Rattle.rh_defs.specs.OutgoingEvents.{is_out_of_reach}
+use Rattle.rh_defs.specs.OutgoingEvents.{is_bad_range}
 use Rattle.rh_defs.specs.IncomingEvents.{outcome_of_end}
 use Rattle.rh_defs.specs.Transfer as transfer
 use Rattle.rh_safety.specs.Buffers.{outcome_refusal, failed_by, HasGoodRanges}
@@ -207,7 +207,7 @@ module _ (d : Desk) (t : Task) where
       let w = buffer_found a.buffer a.room r.slot range.old (ap (λ (g : ℕ → Option (List ℕ)). g a.buffer)
       (sym (field_is (λ y. buffers_of y.slot) (λ a. None) a.transfer.recipient d.tasks r to)) ∙ range.there) range.fits
       (heap_block_at a.buffer r.slot) refl in
-      then_ok _ (unless_ok (is_out_of_reach t r a.buffer a.room place p.n) BadRange
+      then_ok _ (unless_ok (is_bad_range t r a.buffer a.room place p.n) BadRange
       (ap (λ (o : Option (Split Segment)). not (is_some o) && (not (holds a.buffer a.room r.slot) || (t.handle ==
       r.handle && overlap a.buffer a.room place p.n))) w.found))
       (bind_ok _ (send_ok _ d) λ sent e. grants refl)

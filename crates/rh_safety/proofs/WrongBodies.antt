@@ -21,7 +21,7 @@ use Rattle.rh_defs.specs.Records.{is_source, one_more, asking_of}
 use Rattle.rh_defs.specs.Sender as sender
 use Rattle.rh_defs.specs.Receiver as receiver
 use Rattle.rh_defs.specs.Places.{written_in}
-use Rattle.rh_defs.specs.OutgoingEvents.{is_out_of_reach}
+use Rattle.rh_defs.specs.OutgoingEvents.{is_bad_range}
 use Rattle.rh_defs.specs.IncomingEvents.{end_failed}
 use Rattle.rh_defs.specs.Commands.{event}
 use Rattle.rh_defs.specs.Script
@@ -146,7 +146,7 @@ transmits_to record_after d t a source =
     let p : Part = sender.next_part a (length source.here.bytes) in
     let place : ℕ = flex_address t.slot source.before + p.offset in do
       r ← found_or (task_at a.transfer.recipient d) NoTask
-      refuse_if (is_out_of_reach t r a.buffer a.room place p.n) BadRange
+      refuse_if (is_bad_range t r a.buffer a.room place p.n) BadRange
       sent ← send_letter (transmit_letter t.handle a p) d
       Ok (
         with_sending t.handle (with_id out_id a.transfer.id (record_after a p (length source.here.bytes) (next_ref d)))

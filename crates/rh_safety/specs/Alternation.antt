@@ -1,4 +1,7 @@
--- Two tasks that are polled in turn bring a transfer to its end.
+-- Two tasks that are polled in turn bring a transfer to its end. Read Offered and Buffers first.
+-- r is the name of the receiver, s that of the sender, hr and hs are their handles, k is the source's anchor, n a
+-- number of rounds, id the transfer. A round polls the receiver and then the sender; one more poll of the receiver ends
+-- the turns.
 use Rattle.std.specs.Prelude.{◌≡◌, ℕ, zero, suc, ◌+◌, ◌/◌, Bool, true, false, not, List, [], ◌∷◌, length, find, Some, None, is_some}
 use Rattle.std.specs.List.{Contains, AllByRecursion, list_any, list_all}
 use Rattle.rh_defs.specs.Post.{Seat}
@@ -30,7 +33,7 @@ abbrev pub turns : List ℕ → List ℕ → ℕ → List Command
 turns r s zero = command.Poll r ∷ []
 turns r s (suc n) = command.Poll r ∷ command.Poll s ∷ turns r s n
 
--- the same polls but for the last one
+-- the polls of receiver and sender in turn, 2 * n in all: the turns but for the last one
 abbrev pub turns_before : List ℕ → List ℕ → ℕ → List Command
 turns_before r s zero = []
 turns_before r s (suc n) = command.Poll r ∷ command.Poll s ∷ turns_before r s n

@@ -1,4 +1,6 @@
--- A fetch that would be answered names a buffer that is still held for it.
+-- A fetch that would be answered names a buffer that is still held for it. Read Commands of rh_defs first.
+-- d is a desk, m a message in its block, s a slot, x the open record that would answer, n the bytes that are fetched, r
+-- a refusal. The sender is here the task that sent the fetch, which receives the transfer.
 use Rattle.std.specs.Prelude.{◌≡◌, ◌≢◌, ℕ, ◌≤◌, true, false, List, length, Option, Some, None, ◌⊎◌}
 use Rattle.std.specs.List.{Contains}
 use Rattle.std.specs.Option.{option_map}

@@ -1,4 +1,5 @@
--- The count of a receiver's record, beside what was offered and what is held.
+-- The count of a receiver's record, beside what was offered and what is held. Read Held first.
+-- d is the desk before the commands, id a transfer, h a handle, t its task, w a record that comes in, got what is held.
 use Rattle.std.specs.Prelude.{◌≡◌, ◌≤◌, ℕ, ◌==◌, Bool, true, false, List, length, find, Some}
 use Rattle.std.specs.List.{Contains}
 use Rattle.rh_defs.specs.declared.command.Command.{Command}

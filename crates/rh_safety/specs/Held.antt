@@ -1,4 +1,6 @@
--- What a task holds of a transfer after a run.
+-- What a task holds of a transfer after a run: the bytes of its record's document, which nobody edited since.
+-- Read Offered first. d is a desk, h a handle, id a transfer, k an anchor, t a task, w a record that comes in, r a
+-- reply. *edits_next* follows one command by its reply, *edits_from* all commands.
 use Rattle.std.specs.Prelude.{ℕ, Bool, false, ◌&&◌, ◌||◌, ◌==◌, if◌then◌else◌, List, [], ◌∷◌, find, Option, Some, None}
 use Rattle.std.specs.List.{list_any}
 use Rattle.rh_defs.specs.declared.command.Command.{Command}

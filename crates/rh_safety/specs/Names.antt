@@ -1,4 +1,4 @@
--- The names of live tasks.
+-- The names of live tasks. Read Desk of rh_defs first. d is a desk, h and k are handles, t and u their tasks.
 use Rattle.std.specs.Prelude.{◌≡◌, ℕ, Some}
 use Rattle.rh_defs.specs.Desk.{Desk, Task, task_at}
 

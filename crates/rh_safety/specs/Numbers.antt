@@ -1,4 +1,5 @@
--- The numbers that replies answer: handles of tasks, refs of messages that were sent, and numbers of areas that were made.
+-- The numbers that replies answer: handles of tasks, refs of messages that were sent, and numbers of areas that were
+-- made. Read *replies* (Runs of rh_defs) first. d is a desk.
 use Rattle.std.specs.Prelude.{ℕ, List, [], ◌∷◌}
 use Rattle.std.specs.List.{flat_map}
 use Rattle.rh_defs.specs.declared.command.Command.{Command}

@@ -1,4 +1,6 @@
--- What the DataSaves of a run offered.
+-- What the DataSaves of a run offered. Read Commands of rh_defs first.
+-- d is a desk, k an anchor, ref the ref of a DataSave, which is the id of its transfer, r a reply, s a slot, t a task.
+-- *offers_next* follows one command by its reply, *offers_from* all commands.
 use Rattle.std.specs.Prelude.{ℕ, ◌==◌, if◌then◌else◌, List, [], ◌∷◌, find, Option, Some, None}
 use Rattle.std.specs.Option.{option_map}
 use Rattle.rh_defs.specs.Pieces.{Split}

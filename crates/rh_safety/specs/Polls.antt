@@ -1,4 +1,5 @@
--- What no poll answers.
+-- What no poll answers. Read Buffers first. d is a desk, h a handle, t its task, f a transfer that fetches, n a number
+-- of bytes that a transmit may bring.
 use Rattle.std.specs.Prelude.{◌≡◌, ◌≢◌, ℕ, ◌+◌, ◌^◌, ◌≤◌, ◌<◌, List, Some}
 use Rattle.std.specs.List.{Contains}
 use Rattle.rh_defs.specs.declared.refusal.Refusal.TheVariants.{NoBlock}

@@ -1,4 +1,4 @@
--- The refs of live messages.
+-- The refs of live messages. Read Post of rh_defs first. p is a message in its block, s a seat, d a desk.
 use Rattle.std.specs.Prelude.{◌≢◌, ◌<◌, ℕ, List, [], ◌∷◌, ◌++◌, map, Option, Some, None}
 use Rattle.std.specs.List.{AllByRecursion, flat_map}
 use Rattle.rh_defs.specs.Messages.{Parcel}

@@ -1,4 +1,6 @@
--- No run loses a byte, or gives a wrong one.
+-- No run loses a byte, or gives a wrong one. Read Offered, Held and *after* (Runs of rh_defs) first.
+-- d is the desk before the commands, id a transfer: the ref of its DataSave. h is the handle of the task that receives
+-- or sends it, k its document's anchor, n a count, t the task after the commands.
 use Rattle.std.specs.Prelude.{◌≡◌, ◌≤◌, ℕ, true, List, length, Some}
 use Rattle.std.specs.List.{Contains}
 use Rattle.std.specs.Option.{option_map}
@@ -30,11 +32,11 @@ pub record IsSafe (d : Desk) (commands : List Command) (id h : ℕ) : Type 0 whe
       (n : ℕ) (t : Task) → task_at h (after d commands) ≡ Some t → Contains t.sending (outgoing.Done id n) →
       option_map length (offered d commands id) ≡ Some n
 
--- the same of each transfer and each task
+-- each transfer is safe after the commands, for each task
 abbrev pub AreSafe : Desk → List Command → Type 0
 AreSafe d commands = (id h : ℕ) → IsSafe d commands id h
 
--- the same after each list of commands in range, from each start
+-- each transfer is safe after each list of commands in range, from each start
 abbrev pub AlwaysSafe : Type 0
 AlwaysSafe =
     (pool handle ref : ℕ) (files : FileList) (commands : List Command) → IsStart pool handle ref →

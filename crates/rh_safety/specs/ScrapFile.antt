@@ -1,4 +1,5 @@
--- Whose the scrap file is.
+-- Whose the scrap file is. Read Desk of rh_defs first.
+-- d is a desk, h and k are handles, x and y open transfers that go out, p is a message in its block.
 use Rattle.std.specs.Prelude.{◌≡◌, ◌≢◌, ◌⊎◌, ℕ, ◌<◌, true, Some}
 use Rattle.std.specs.List.{Contains}
 use Rattle.rh_defs.specs.declared.transfer.Sending.{Sending}

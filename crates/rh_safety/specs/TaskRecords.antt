@@ -1,4 +1,6 @@
--- What the records of a live task's transfers say, and that what they name is there.
+-- What the records of a live task's transfers say, and that what they name is there. Read Buffers and Offered first.
+-- d is a desk, t a task, h its handle, k an anchor, n a number of bytes, x an open transfer that goes out, f and g are
+-- transfers that have a buffer, q one that waits for a file.
 use Rattle.std.specs.Prelude.{◌≡◌, ℕ, ◌≤◌, true, List, length, Some, ◌⊎◌}
 use Rattle.std.specs.List.{Contains}
 use Rattle.rh_defs.specs.declared.transfer.Sending.{Sending}

@@ -50,7 +50,7 @@ pub record IsBlockAt (h : Heap) (place : ℕ) (bytes : List ℕ) : Type 0 where
   pub whole : h.segments ≡ below ++ Used bytes ∷ above
   pub at : place ≡ place_after below
 
--- the same of a heap that may be there
+-- a heap is there, and a block with these bytes begins at the place in it
 abbrev pub SeesBlock : Option Heap → ℕ → List ℕ → Type 0
 SeesBlock None place bytes = ⊥
 SeesBlock (Some h) place bytes = IsBlockAt h place bytes

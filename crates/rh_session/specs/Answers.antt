@@ -13,7 +13,7 @@ pub record AnsweredMeaning {D : Type 0} (spells : D → Desk → Type 0) (s : Se
   pub answer : (d : Desk) → spells s.desktop d → text ≡ meaning_text d meaning
   pub bad : t.has_bad_line ≡ (s.has_bad_line || is_err meaning)
 
--- the same of a line
+-- it did what a complete line means, and wrote this answer to it
 abbrev pub AnsweredLine : {D : Type 0} → (D → Desk → Type 0) → Session D → List ℕ → Session D → List ℕ → Type 0
 AnsweredLine spells s line t text = AnsweredMeaning spells s (line_means line) t text
 

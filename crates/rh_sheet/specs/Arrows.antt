@@ -1,4 +1,7 @@
--- The arrow of a slide: from where the lowest block that slid began to where it begins now.
+-- The arrow of a slide: from where the lowest block that slid began to where it begins now. Read Slides and Frames
+-- first. x and y are units from the left and from above, 0 at the beginning and 1 at the end of a way; r and s are
+-- rows, f is the frame. In *block_place* `-` of naturals doesn't have to stop: a flex block's header lies beyond the
+-- slot's start.
 use Rattle.std.specs.Prelude.{ℕ, ◌+◌, ◌-◌, ◌*◌, ◌/◌, ◌%◌, ◌==◌, max, if◌then◌else◌, List, [], ◌∷◌, codes, Option, Some}
 use Rattle.std.specs.List.{concat}
 use Rattle.rh_defs.specs.Pieces.{page_size}

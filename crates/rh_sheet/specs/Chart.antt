@@ -1,5 +1,7 @@
 -- The chart of the last messages: a line down for each task, an arrow from the step at which a message was sent to the
--- one at which it was taken.
+-- one at which it was taken. Read Scene of rh_figure and Markup first.
+-- x is the scene, n a note of a message, step the number of a step, code an event code, 0 where no message waits.
+-- `-` of naturals stops at 0: of a short list all notes are the last ones (*last_of*).
 use Rattle.std.specs.Prelude.{ℕ, ◌+◌, ◌-◌, ◌*◌, ◌/◌, ◌==◌, nat_lt, max, ◌&&◌, ◌||◌, not, Bool, if◌then◌else◌, List, [], ◌∷◌, ◌++◌, length, take, drop, map, filter, find, codes, Option, Some, None, is_some}
 use Rattle.std.specs.List.{concat, flat_map}
 use Rattle.std.specs.Fmt.{decimal}

@@ -1,4 +1,4 @@
--- The texts that are the same on every sheet.
+-- The texts that are the same on every sheet. Nothing is to be read before.
 use Rattle.rh_figure.specs.Phrases.{Text}
 use Rattle.rh_sheet.specs.declared.style.TheConstants.{STYLE}
 use Rattle.rh_sheet.specs.declared.signs.TheConstants.{SIGNS}

@@ -1,4 +1,6 @@
--- Where the parts of an area's figure stand: cards above, rows of pages, cards below.
+-- Where the parts of an area's figure stand: cards above, rows of pages, cards below. f is a frame, n a number of pages
+-- or cards, i a row, counted from below, k a page of the area. `-` of naturals doesn't have to stop for rows that are
+-- shown.
 use Rattle.std.specs.Prelude.{ℕ, ◌+◌, ◌-◌, ◌*◌, ◌/◌, ◌==◌, nat_le, nat_lt, min, ◌||◌, if◌then◌else◌, Option, Some, None}
 use Rattle.rh_figure.specs.declared.limits.TheConstants.{MOST_ROWS, EDGE_ROWS, MOST_CARDS}
 pub use Rattle.rh_sheet.specs.declared.frame.Frame.{Frame}

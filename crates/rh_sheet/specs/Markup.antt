@@ -1,4 +1,5 @@
--- The elements of a sheet: HTML, and SVG inside it.
+-- The elements of a sheet: HTML, and SVG inside it. Read Phrases of rh_figure first.
+-- t is a text, b a byte or a rectangle, n a number, x and y are units from the left and from above.
 use Rattle.std.specs.Prelude.{ℕ, ◌==◌, Bool, if◌then◌else◌, [], ◌∷◌, ◌++◌, length, codes}
 use Rattle.std.specs.List.{flat_map, concat}
 use Rattle.std.specs.Fmt.{decimal}

@@ -1,4 +1,6 @@
--- How the owners of pages are told apart: by a tag of three letters, and by a tint.
+-- How the owners of pages are told apart: by a tag of three letters, and by a tint. Read Share of rh_figure first.
+-- k is the number of an area, h a handle, d a desk. `-` of naturals stops at 0: of a short text all bytes are the last
+-- ones.
 use Rattle.std.specs.Prelude.{ℕ, ◌-◌, ◌%◌, ◌==◌, if◌then◌else◌, ◌++◌, length, take, drop, codes}
 use Rattle.std.specs.Fmt.{decimal}
 use Rattle.rh_defs.specs.Desk.{Desk, module_area}

@@ -1,4 +1,5 @@
--- The pool of pages: a square for each page, with its number, its owner's tint and tag.
+-- The pool of pages: a square for each page, with its number, its owner's tint and tag. Read Owners and Markup first.
+-- k is the number of a page and ks those of several, n the number of pages, y units from above.
 use Rattle.std.specs.Prelude.{ℕ, ◌+◌, ◌-◌, ◌*◌, ◌/◌, ◌%◌, ◌==◌, nat_le, not, Bool, true, false, List, [], ◌∷◌, ◌++◌, take, codes}
 use Rattle.std.specs.List.{concat, flat_map, range_with_len}
 use Rattle.std.specs.Fmt.{decimal}
@@ -38,7 +39,7 @@ some_squares class ks tip = concat (
     squares_begin class ∷ flat_map square_way ks ∷ codes "\"><title>" ∷ escape tip ∷ codes "</title></path>\n" ∷ []
     )
 
--- the same, if there are any
+-- the squares of some pages, with a tip, if there are any
 abbrev pub squares_text : Text → List ℕ → Text → Text
 squares_text class [] tip = []
 squares_text class (k ∷ ks) tip = some_squares class (k ∷ ks) tip

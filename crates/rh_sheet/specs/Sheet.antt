@@ -1,4 +1,5 @@
--- What `draw` writes: one sheet of HTML with a figure of memory after each command of a script.
+-- What `draw` writes: one sheet of HTML with a figure of memory after each command of a script. Read SheetSteps first.
+-- x is where the sheet stands between two lines, n a number of steps, left a number of commands without a step.
 use Rattle.std.specs.Prelude.{ℕ, ◌+◌, ◌==◌, nat_lt, ◌&&◌, ◌||◌, not, Bool, true, if◌then◌else◌, List, [], ◌∷◌, ◌++◌, length, map, codes, Some, None, Ok, Err}
 use Rattle.std.specs.List.{concat, flat_map, range_with_len}
 use Rattle.std.specs.Fmt.{decimal}

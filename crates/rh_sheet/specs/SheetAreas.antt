@@ -1,4 +1,6 @@
--- The figures of slots and of the module area.
+-- The figures of slots and of the module area. Read SheetRows, SheetCards and Arrows first.
+-- x is the scene, t a task, o an owner, f a frame, n a number of cards, low and high are places of an area.
+-- `-` of naturals stops at 0 for an area without pages, and above rows without cards: nothing is drawn there then.
 use Rattle.std.specs.Prelude.{ℕ, ◌+◌, ◌-◌, ◌*◌, ◌/◌, ◌==◌, nat_le, nat_lt, max, min, ◌&&◌, List, [], ◌∷◌, ◌++◌, length, codes}
 use Rattle.std.specs.List.{concat, flat_map}
 use Rattle.rh_defs.specs.declared.question.BlockItem.{BlockItem}

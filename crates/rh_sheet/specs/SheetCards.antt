@@ -1,4 +1,6 @@
--- Bands of cards, above and below the rows, and what leads to them.
+-- Bands of cards, above and below the rows, and what leads to them. Read Cards of rh_figure and Frames first.
+-- c is a card, i its number in its band, x and y are units from the left and from above, y0 is where the band begins.
+-- `-` of naturals doesn't have to stop: a band lies below the figure's upper edge by its own height.
 use Rattle.std.specs.Prelude.{ℕ, ◌+◌, ◌-◌, ◌*◌, ◌/◌, ◌%◌, min, Bool, List, [], ◌∷◌, ◌++◌, codes}
 use Rattle.std.specs.List.{concat, flat_map, enumerate_from}
 use Rattle.rh_figure.specs.Phrases.{Text, cut, commas}
@@ -41,11 +43,11 @@ card_text c x y = concat (
 abbrev pub card_x : ℕ → ℕ
 card_x i = LEFT + CARD_PITCH * (i % CARDS_ACROSS)
 
--- the same from above, of cards that begin at a height and go on below
+-- where the room of card i begins, counted from above, of cards that begin at a height and go on below
 abbrev pub low_card_y : ℕ → ℕ → ℕ
 low_card_y y0 i = y0 + CARD_RISE * (i / CARDS_ACROSS)
 
--- the same of cards that end at a height and go on above
+-- where the room of card i begins, counted from above, of cards that end at a height and go on above
 abbrev pub high_card_y : ℕ → ℕ → ℕ
 high_card_y y0 i = y0 - CARD_RISE * (i / CARDS_ACROSS + 1)
 
@@ -60,7 +62,7 @@ high_card_text y0 placed = card_text placed.1 (card_x placed.0) (high_card_y y0 
 abbrev pub cards_below : ℕ → List Card → Text
 cards_below y0 cards = flat_map (low_card_text y0) (enumerate_from 0 (shown_cards cards))
 
--- the same above a height, the first ones lowest
+-- the cards that are shown of so many, above a height, the first ones lowest
 abbrev pub cards_above : ℕ → List Card → Text
 cards_above y0 cards = flat_map (high_card_text y0) (enumerate_from 0 (shown_cards cards))
 

@@ -1,4 +1,4 @@
--- What holds of every sheet.
+-- What holds of every sheet. Read Sheet first. t is a text, b a byte or a rectangle.
 use Rattle.std.specs.Prelude.{◌≡◌, ◌≢◌, ℕ, ◌+◌, ◌<◌, ◌≤◌, Bool, true, List, [], ◌∷◌, length, take, codes}
 use Rattle.std.specs.List.{list_any}
 use Rattle.std.specs.Str.{bytes_eq}

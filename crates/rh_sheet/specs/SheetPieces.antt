@@ -1,4 +1,6 @@
--- The pieces of an area as rectangles in the rows of its pages.
+-- The pieces of an area as rectangles in the rows of its pages. Read Layout of rh_figure and Markup first.
+-- p is a piece, k a page of the area or an anchor, n a size, y units from above.
+-- `-` of naturals stops at 0: a piece that begins below a page has its first byte there at 0 (*low_in*).
 use Rattle.std.specs.Prelude.{ℕ, ◌+◌, ◌-◌, ◌*◌, ◌/◌, ◌==◌, nat_le, nat_lt, min, ◌&&◌, Bool, true, false, if◌then◌else◌, List, [], ◌∷◌, ◌++◌, length, codes}
 use Rattle.std.specs.List.{concat, flat_map}
 use Rattle.std.specs.Fmt.{decimal}

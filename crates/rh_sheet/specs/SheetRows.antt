@@ -1,4 +1,6 @@
--- The rows of an area: a page each, with its address and its number in the pool.
+-- The rows of an area: a page each, with its address and its number in the pool. Read Frames and SheetPieces first.
+-- g is the area as it is drawn, f its frame, k a page of the area, i a row, counted from below, y units from above.
+-- `-` of naturals doesn't have to stop: pages lie between the ends only of an area with more pages than both ends.
 use Rattle.std.specs.Prelude.{ℕ, ◌+◌, ◌-◌, ◌*◌, ◌/◌, nat_lt, if◌then◌else◌, List, [], ◌∷◌, ◌++◌, length, slice_index, codes, Option, Some, None}
 use Rattle.std.specs.List.{concat, flat_map, range_with_len}
 use Rattle.std.specs.Fmt.{decimal}

@@ -1,4 +1,5 @@
--- A step of a sheet: the command, its reply, what has changed, and the figure.
+-- A step of a sheet: the command, its reply, what has changed, and the figure. Read Markup, SheetAreas, Pool, Chart and
+-- Tables first. x is the scene, t a task, p a panel, step and n are numbers of steps.
 use Rattle.std.specs.Prelude.{ℕ, ◌+◌, ◌-◌, ◌==◌, nat_lt, ◌||◌, not, Bool, if◌then◌else◌, List, [], ◌∷◌, ◌++◌, length, drop, map, codes}
 use Rattle.std.specs.List.{concat, flat_map, join_by}
 use Rattle.std.specs.Fmt.{decimal}
@@ -69,7 +70,7 @@ command_head step line = concat (
     codes "<h2><b>" ∷ decimal step ∷ codes "</b> <code>" ∷ escape (command_text line) ∷ codes "</code></h2>\n<pre>" ∷ []
     )
 
--- the same, and the reply
+-- the step's number, its command and the reply
 abbrev pub said_text : ℕ → Text → Text → Text
 said_text step line reply =
     concat (command_head step line ∷ escape (reply_shown reply) ∷ codes "</pre>\n" ∷ [])

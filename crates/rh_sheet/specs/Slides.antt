@@ -1,4 +1,5 @@
--- How far flex blocks slide: the one arrow of a figure stands for all of them.
+-- How far flex blocks slide: the one arrow of a figure stands for all of them. Read Slot and Questions of rh_defs
+-- first. k is an anchor, a and b are its block's addresses before and now, s and t slots before and now.
 use Rattle.std.specs.Prelude.{◌≡◌, ◌⊎◌, ℕ, ◌+◌, ℤ, List, Option, Some, Ok, Err}
 use Rattle.std.specs.Option.{option_map}
 use Rattle.rh_defs.specs.declared.question.BlockItem.{BlockItem}
@@ -17,7 +18,7 @@ pub record SlideAlike (before now : List BlockItem) : Type 0 where
   pub down : ℕ
   pub each : (k a b : ℕ) → address_in k before ≡ Some a → address_in k now ≡ Some b → (a ≡ b) ⊎ (a + up ≡ b + down)
 
--- the same of the blocks of two slots
+-- each block of a slot lies where it lay in another, or has slid: all of them the same way, and equally far
 abbrev pub Slides : Slot → Slot → Type 0
 Slides s t = SlideAlike (block_items s) (block_items t)
 

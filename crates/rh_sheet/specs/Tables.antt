@@ -1,4 +1,5 @@
--- The tables beside a figure: who has messages, and which transfers there are.
+-- The tables beside a figure: who has messages, and which transfers there are. Read Figure of rh_figure and Markup
+-- first. b is a letterbox, s a side of a transfer, r a row, t a transfer.
 use Rattle.std.specs.Prelude.{List, [], ◌∷◌, ◌++◌, map, codes, Option, Some, None}
 use Rattle.std.specs.List.{concat, flat_map}
 use Rattle.std.specs.Fmt.{decimal}

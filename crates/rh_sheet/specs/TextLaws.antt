@@ -1,4 +1,5 @@
--- What of a sheet is markup: nothing that a script says.
+-- What of a sheet is markup: nothing that a script says. Read WellFormed and Sheet first.
+-- b is a byte, t a text behind it, r a reader, x where a sheet stands, n the number of a step.
 use Rattle.std.specs.Prelude.{◌≡◌, ℕ, ◌==◌, ◌&&◌, Bool, true, false, if◌then◌else◌, List, [], ◌∷◌, ◌++◌, length, codes, None, Ok}
 use Rattle.rh_defs.specs.Line.{words_of}
 use Rattle.rh_figure.specs.Phrases.{Text}

@@ -1,4 +1,5 @@
--- Which texts are documents: each element ends where it has to, and none is left open.
+-- Which texts are documents: each element ends where it has to, and none is left open. Nothing is to be read before.
+-- b is a byte, around the names of the elements that are open, the inner ones first.
 use Rattle.std.specs.Prelude.{◌≡◌, ℕ, ◌==◌, Bool, false, if◌then◌else◌, List, [], ◌∷◌, ◌++◌}
 use Rattle.std.specs.Str.{bytes_eq}
 use Rattle.rh_defs.specs.Bytes.{space}

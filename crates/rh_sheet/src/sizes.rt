@@ -159,7 +159,7 @@ pub const WORDS_ASIDE: u32 = 14;
 
 pub const WORDS_DOWN: u32 = 21;
 
-/// The same where the message waits.
+/// From the beginning of an arrow of a message that waits to its words: to the side, and down.
 pub const STUB_ASIDE: u32 = 36;
 
 pub const STUB_DOWN: u32 = 13;

@@ -104,7 +104,7 @@ fn heap_bytes(image: &[u8]) -> &[u8]
     }
 }
 
-/// The same as `check`, where the length and the C heap are right.
+/// Tells what `check` tells of bytes whose length and C heap are right.
 fn check_blocks(image: &[u8], heap: Summary) -> Result<SlotSummary, SlotFault>
     requires length { has_slot_length image.now ≡ true }
     requires heap { IsImage (heap_bytes image.now) (heap_of (heap_bytes image.now) 0) }

@@ -26,7 +26,7 @@ pub trait Lines: Drop {
     /// The words, in order.
     ghost words: { Self → List ℕ };
 
-    /// The same lines with other words.
+    /// These lines with other words.
     ghost with_words: { Self → List ℕ → Self };
 
     /// The words, to be read.

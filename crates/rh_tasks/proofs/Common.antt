@@ -38,7 +38,7 @@ unfoldable pub use Rattle.rh_defs.specs.Memory.{bytes}
 pub use Rattle.rh_defs.specs.Messages.{Parcel}
 unfoldable pub use Rattle.rh_defs.specs.Module.{module_change, module_claim, module_resize}
 pub use Rattle.rh_defs.specs.Order.{IsReordered, with_queue}
-pub use Rattle.rh_defs.specs.OutgoingEvents.{Handled, ignored, is_out_of_reach, refused, scrap_shortage, wider}
+pub use Rattle.rh_defs.specs.OutgoingEvents.{Handled, ignored, is_bad_range, refused, scrap_shortage, wider}
 pub use Rattle.rh_defs.specs.Pieces.{Split, first_at, page_size, pages_for, total, zeros}
 pub use Rattle.rh_defs.specs.Places.{buffer_at, first_bytes, overlap}
 pub use Rattle.rh_defs.specs.Post.{Post, post_poll}

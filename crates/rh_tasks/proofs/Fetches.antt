@@ -1,7 +1,7 @@
 -- Tasks at their places, and the steps of a transfer that goes out.
 use Rattle.rh_tasks.proofs.Common.{◌≡◌, ◌≢◌, ℕ, zero, suc, ◌≤◌, true, false, refl, ap, sym, subst, ◌∙◌, arith, List, [], ◌∷◌, Option, Some, None, Ok, is_some}
 use Rattle.rh_tasks.proofs.Common.{ok_or, ◌&&◌, ◌==◌, ◌-◌, slice_get, map, option_map, get_or, nat_tests, slice_get-map, slice_get_within, slice_get-get_or}
-use Rattle.rh_tasks.proofs.Common.{NotABlock, Memory, block_size, heap_start, holds, buffer_at, overlap, Task, is_out_of_reach, slot_in, Seat, task_of}
+use Rattle.rh_tasks.proofs.Common.{NotABlock, Memory, block_size, heap_start, holds, buffer_at, overlap, Task, is_bad_range, slot_in, Seat, task_of}
 use Rattle.rh_tasks.proofs.Common.{AreDistinct, Sits, avoids-at}
 use Rattle.std.proofs.lemmas.Option.{get_or_from_slice_get}
 use Rattle.rh_tasks.proofs.Portions.{buffer-wide, reach-buffer, reach-nothing, reach-block}
@@ -60,28 +60,28 @@ test-same a b h = grind (arith, nat_tests)
 module _ {m : Memory} {seats : List Seat} {i j : ℕ} {t r : Task} (a : Seated m seats i t) (b : Seated m seats j r) (s : Seat) (is : get_or seats j s ≡ s)
     (address room place n : ℕ) where
   pub in-buffer : {size : ℕ} → Ok size ≡ ok_or (block_size (address - heap_start) (slot_in m s.slot).heap) NotABlock → room ≤ size
-      → false ≡ is_out_of_reach t r address room place n
+      → false ≡ is_bad_range t r address room place n
   unfolding task_of
   in-buffer e h = rw (seat-is b s is) (sym (reach-buffer t (task_of m s) address room place n (buffer-wide address room (slot_in m s.slot) e h)))
 
   module _ (narrow : is_some (buffer_at address room (slot_in m s.slot)) ≡ false) where
-    pub in-none : false ≡ holds address room (slot_in m s.slot) → true ≡ is_out_of_reach t r address room place n
+    pub in-none : false ≡ holds address room (slot_in m s.slot) → true ≡ is_bad_range t r address room place n
     unfolding task_of
     in-none e = rw (seat-is b s is) (sym (reach-nothing t (task_of m s) address room place n narrow (sym e)))
 
     module _ (held : true ≡ holds address room (slot_in m s.slot)) where
-      in-block : is_out_of_reach t r address room place n ≡ (t.handle == r.handle && overlap address room place n)
+      in-block : is_bad_range t r address room place n ≡ (t.handle == r.handle && overlap address room place n)
       unfolding task_of
       in-block = rw (seat-is b s is) (reach-block t (task_of m s) address room place n narrow (sym held))
 
-      pub in-own : i ≡ j → overlap address room place n ≡ is_out_of_reach t r address room place n
+      pub in-own : i ≡ j → overlap address room place n ≡ is_bad_range t r address room place n
       in-own e =
           let P : ℕ → Type 0 = λ k. get_or seats k b.seat ≡ b.seat in
           let one : a.seat ≡ b.seat = one-member seats i a.seat b.seat a.sits (subst P (sym e) b.sits.is) in
           let same : t.handle ≡ r.handle = ap (λ (x : Task). x.handle) (a.is ∙ ap (task_of m) one ∙ sym b.is) in
           sym (in-block ∙ rw (test-same t.handle r.handle same) refl)
 
-      pub in-other : AreDistinct (map (λ (x : Seat). x.handle) seats) → i ≢ j → (i == j) ≡ is_out_of_reach t r address room place n
+      pub in-other : AreDistinct (map (λ (x : Seat). x.handle) seats) → i ≢ j → (i == j) ≡ is_bad_range t r address room place n
       unfolding task_of
       in-other handles ne =
           let apart : t.handle ≢ r.handle =

@@ -2,7 +2,7 @@
 use Rattle.rh_tasks.proofs.Common.{◌≡◌, ℕ, ◌+◌, ◌-◌, ◌<◌, ◌≤◌, Bool, true, false, refl, sym, subst, ◌∙◌, arith, length, Option, Some, None, Ok, Err, IfSome}
 use Rattle.rh_tasks.proofs.Common.{is_some, ok_or, ◌&&◌, ◌==◌, nat_le, if◌then◌else◌, option_map, eqb-true, Refusal, NoBlock, NotABlock, Granted, ◌>>=◌}
 use Rattle.rh_tasks.proofs.Common.{found_or, Split, Segment, bytes_of, block_size, Flex, weight, slot_block, slot_size, slot_length, heap_start}
-use Rattle.rh_tasks.proofs.Common.{heap_block_at, flex_address, flex_start, holds, HaveAnchors, anchor_count, buffer_at, overlap, Task, is_out_of_reach}
+use Rattle.rh_tasks.proofs.Common.{heap_block_at, flex_address, flex_start, holds, HaveAnchors, anchor_count, buffer_at, overlap, Task, is_bad_range}
 use Rattle.rh_tasks.proofs.Common.{IsCut, first_at-cuts, cut-total, begins, le-true, le-false}
 use Rattle.rh_defs.specs.Slot as plain
 use Rattle.rh_defs.specs.Slot.{block_of, slot_address}
@@ -94,12 +94,12 @@ module _ (address room : ℕ) (s : plain.Slot) where
 -- ---- what is out of reach
 
 module _ (t r : Task) (address room place n : ℕ) where
-  pub reach-buffer : is_some (buffer_at address room r.slot) ≡ true → is_out_of_reach t r address room place n ≡ false
+  pub reach-buffer : is_some (buffer_at address room r.slot) ≡ true → is_bad_range t r address room place n ≡ false
   reach-buffer e = rw e refl
 
-  pub reach-nothing : is_some (buffer_at address room r.slot) ≡ false → holds address room r.slot ≡ false → is_out_of_reach t r address room place n ≡ true
+  pub reach-nothing : is_some (buffer_at address room r.slot) ≡ false → holds address room r.slot ≡ false → is_bad_range t r address room place n ≡ true
   reach-nothing e h = rw (e, h) refl
 
   pub reach-block : is_some (buffer_at address room r.slot) ≡ false → holds address room r.slot ≡ true
-      → is_out_of_reach t r address room place n ≡ (t.handle == r.handle && overlap address room place n)
+      → is_bad_range t r address room place n ≡ (t.handle == r.handle && overlap address room place n)
   reach-block e h = rw (e, h) refl

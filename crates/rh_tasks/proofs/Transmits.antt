@@ -4,7 +4,7 @@ use Rattle.rh_tasks.proofs.Common.{take, drop, ◌==◌, ◌&&◌, ◌||◌, pos
 use Rattle.rh_tasks.proofs.Common.{Outcome, Sending, Granted, ◌>>=◌, ◌>>◌, refuse_if, found_or, or_else, FileList, Memory, Split, Flex, flex_address}
 use Rattle.rh_tasks.proofs.Common.{slot_block, holds}
 use Rattle.rh_tasks.proofs.Common.{buffer_at, overlap, Desk, Task, next_ref, task_at, with_task, with_sending, send_letter, IsReordered, Handled}
-use Rattle.rh_tasks.proofs.Common.{is_out_of_reach, refused, Seat, MadeArea, Kept, task_of, desk_of, IsWorld, IsAt, IsPortion}
+use Rattle.rh_tasks.proofs.Common.{is_bad_range, refused, Seat, MadeArea, Kept, task_of, desk_of, IsWorld, IsAt, IsPortion}
 use Rattle.rh_tasks.proofs.Common.{begins, ends, past, stops, Sits, mapped-at, task-found, edit-alike}
 use Rattle.std.proofs.lemmas.List.Quantifiers.{position-Some}
 use Rattle.std.proofs.lemmas.Option.{get_or_from_slice_get}
@@ -92,7 +92,7 @@ block-seen : (t u : Task) {a : Transmit} {address size : ℕ} {p : Part} → pai
 block-seen t u {a} e b = subst (λ s. slot_block a.transfer.anchor s ≡ Ok b.source) (ap (λ (q : ℕ × plain.Slot). q.1) (sym e)) b.block
 
 pub reach-seen : (t u r s : Task) (buffer amount address n : ℕ) → pair_of u ≡ pair_of t → pair_of s ≡ pair_of r
-    → is_out_of_reach u s buffer amount address n ≡ is_out_of_reach t r buffer amount address n
+    → is_bad_range u s buffer amount address n ≡ is_bad_range t r buffer amount address n
 reach-seen t u r s buffer amount address n e f =
     let F : ℕ × plain.Slot → ℕ × plain.Slot → Bool =
     λ p q. not (is_some (buffer_at buffer amount q.1)) && (not (holds buffer amount q.1) || (p.0 == q.0 && overlap buffer amount address n)) in
@@ -136,7 +136,7 @@ module _ (d : Desk) (t : Task) (a : Transmit) where
     abbrev steps : Part → Granted Handled
     steps k =
         found_or (task_at a.transfer.recipient d) NoTask >>= λ r.
-        refuse_if (is_out_of_reach t r a.buffer a.room (flex_address t.slot b.source.before + k.offset) k.n) BadRange
+        refuse_if (is_bad_range t r a.buffer a.room (flex_address t.slot b.source.before + k.offset) k.n) BadRange
         >> (send_letter (transmit_letter t.handle a k) d >>= λ sent. Ok (after_sent k (next_ref d) r sent))
 
     steps-are : given ≡ steps p
@@ -152,13 +152,13 @@ module _ (d : Desk) (t : Task) (a : Transmit) where
       unfolding found_or
       there = ap (λ o. found_or o NoTask) found
 
-      out-same : is_out_of_reach t r a.buffer a.room (flex_address t.slot b.source.before + p.offset) p.n ≡ is_out_of_reach t r a.buffer a.room address p.n
-      out-same = ap (λ k. is_out_of_reach t r a.buffer a.room k p.n) (sym b.address_is)
+      out-same : is_bad_range t r a.buffer a.room (flex_address t.slot b.source.before + p.offset) p.n ≡ is_bad_range t r a.buffer a.room address p.n
+      out-same = ap (λ k. is_bad_range t r a.buffer a.room k p.n) (sym b.address_is)
 
-      pub transmit-far : true ≡ is_out_of_reach t r a.buffer a.room address p.n → given ≡ Err BadRange
+      pub transmit-far : true ≡ is_bad_range t r a.buffer a.room address p.n → given ≡ Err BadRange
       transmit-far q = steps-are ∙ begins _ there (stops _ BadRange _ (out-same ∙ sym q))
 
-      module _ (near : false ≡ is_out_of_reach t r a.buffer a.room address p.n) where
+      module _ (near : false ≡ is_bad_range t r a.buffer a.room address p.n) where
         pub transmit-refused : {e : Refusal} → send_letter (transmit_letter t.handle a p) d ≡ Err e → given ≡ Err e
         transmit-refused q = steps-are ∙ begins _ there (past _ BadRange _ (out-same ∙ sym near) (ends _ q))
 

@@ -3,7 +3,7 @@ use Rattle.rh_tasks.proofs.Common.{◌≡◌, ◌⊎◌, inl, inr, ℕ, ◌+◌,
 use Rattle.rh_tasks.proofs.Common.{Some, Ok, Err, is_some, slice_get, map, take, drop, ◌==◌, ◌&&◌, ◌||◌, option_map, get_or, set, cases_eq, length-map}
 use Rattle.rh_tasks.proofs.Common.{slice_get-map, slice_get-get_or, slice_get_within, Letter, part, Granted, ◌>>=◌, no_answer, FileList, Memory}
 use Rattle.rh_tasks.proofs.Common.{bytes, Split, Flex, slot_block, holds, buffer_at, overlap, Post, post_send, Desk, Task, free_pages}
-use Rattle.rh_tasks.proofs.Common.{edit_task, with_task, with_post, send_letter, IsDesk, IsReordered, is_out_of_reach, length-part, IsSlotIn, slot_in}
+use Rattle.rh_tasks.proofs.Common.{edit_task, with_task, with_post, send_letter, IsDesk, IsReordered, is_bad_range, length-part, IsSlotIn, slot_in}
 use Rattle.rh_tasks.proofs.Common.{LeavesSlotIn}
 use Rattle.rh_tasks.proofs.Common.{Seat, MadeArea, Kept, HasSlot, slot_area, task_of, desk_of, IsWorld, IsAt, IsPortion, Sits, all-at, set_same, Moves}
 use Rattle.rh_tasks.proofs.Common.{moved-desk, moved-world, mapped-at, mapped-is}
@@ -63,7 +63,7 @@ module _ {m : Memory} {seats : List Seat} {made : List MadeArea} {files : FileLi
     (w : IsWorld m seats made files kept) (at : Sits seats i a) (bt : Sits seats j b) (x : Transmit) (p : Part) (address size buffer room place : ℕ)
     (given : (t : Task) → IsAt i t (desk_of m seats made files kept) → IsPortion t x address size p)
     (near : (t r : Task) → IsAt i t (desk_of m seats made files kept) → IsAt j r (desk_of m seats made files kept)
-    → is_out_of_reach t r buffer room address p.n ≡ false)
+    → is_bad_range t r buffer room address p.n ≡ false)
     (fits : p.n ≤ room) (none : p.n ≡ 0 → place ≡ 0) (some : 0 < p.n → place ≡ address - 32768) where
   the-portion : IsPortion (task_of m a) x address size p
   the-portion = given (task_of m a) (mapped-at (task_of m) seats i a at)
@@ -75,7 +75,7 @@ module _ {m : Memory} {seats : List Seat} {made : List MadeArea} {files : FileLi
   has : IsSlotIn m a.slot
   has = all-at (HasSlot m) seats i a w.areas.slots at
 
-  reached : is_out_of_reach (task_of m a) (task_of m b) buffer room address p.n ≡ false
+  reached : is_bad_range (task_of m a) (task_of m b) buffer room address p.n ≡ false
   reached = near (task_of m a) (task_of m b) (mapped-at (task_of m) seats i a at) (mapped-at (task_of m) seats j b bt)
 
   pub from-inside : place + p.n ≤ length (bytes m a.slot.area.0)
@@ -92,8 +92,8 @@ module _ {m : Memory} {seats : List Seat} {made : List MadeArea} {files : FileLi
   own-apart e =
       let P : ℕ → Type 0 = λ k. get_or seats k b ≡ b in
       let one : a ≡ b = one-member seats i a b at (subst P (sym e) bt.is) in
-      let Q : Seat → Type 0 = λ y. is_out_of_reach (task_of m a) (task_of m y) buffer room address p.n ≡ false in
-      let R : ℕ → Type 0 = λ k. is_out_of_reach (task_of m a) (task_of m a) buffer room k p.n ≡ false in
+      let Q : Seat → Type 0 = λ y. is_bad_range (task_of m a) (task_of m y) buffer room address p.n ≡ false in
+      let R : ℕ → Type 0 = λ k. is_bad_range (task_of m a) (task_of m a) buffer room k p.n ≡ false in
       ranges-apart has ported buffer room fits (a.handle == a.handle) (test-same a.handle a.handle refl)
       (subst R the-portion.address_is (subst Q (sym one) reached))
 

@@ -31,12 +31,12 @@ heap_shown d name address offset n = do
   refuse_if (nat_lt (length old) (offset + n)) BadRange
   Ok (length old, take n (drop offset old))
 
--- the same of an anchor's block, or where there is no anchor of the C heap's block at the address
+-- the size and n bytes of an anchor's block, or where there is no anchor of the C heap's block at the address
 abbrev pub shown_there : Option ℕ → Desk → List ℕ → ℕ → ℕ → ℕ → Granted (ℕ × List ℕ)
 shown_there (Some k) d name address offset n = shown_at d name k offset n
 shown_there None d name address offset n = heap_shown d name address offset n
 
--- the same of the task's block at an address, of either kind
+-- the size and n bytes of the task's block at an address: a flex block, or one of the C heap
 unfoldable pub block_shown : Desk → List ℕ → ℕ → ℕ → ℕ → Granted (ℕ × List ℕ)
 block_shown d name address offset n = do
   k ← anchor_at d name address
@@ -51,7 +51,7 @@ heap_written address offset bytes h = do
   refuse_if (nat_lt (length old) (offset + length bytes)) BadRange
   Ok (poked address offset bytes h)
 
--- the same in a slot's C heap
+-- bytes written into the block at an address of a slot's C heap, from an offset on
 unfoldable pub slot_written : ℕ → ℕ → List ℕ → Slot → Granted Slot
 slot_written address offset bytes s = do
   h ← heap_written (address - heap_start) offset bytes s.heap
@@ -61,7 +61,7 @@ slot_written address offset bytes s = do
 unfoldable pub heap_put : Desk → List ℕ → ℕ → ℕ → List ℕ → Granted Answer
 heap_put d name address offset bytes = do
   t ← named name d
-  b ← idle_buffer address t
+  _ ← idle_buffer address t
   s ← slot_written address offset bytes t.slot
   Ok (with_slot t.handle s d, reply.Done)
 
@@ -79,6 +79,6 @@ block_written d name address offset bytes = do
 -- a block of the module area that holds no message is written
 unfoldable pub module_written : Desk → ℕ → ℕ → List ℕ → Granted Answer
 module_written d address offset bytes = do
-  b ← own_block address d
+  _ ← own_block address d
   h ← heap_written (address - module_start) offset bytes d.post.heap
   Ok (with_module h d, reply.Done)

@@ -13,7 +13,7 @@ abbrev pub bytes_in_heap : ℕ → ℕ → Option (Split Segment) → List ℕ
 bytes_in_heap x n None = []
 bytes_in_heap x n (Some b) = take n (drop (x - (heap_start + place_after b.before + 4)) (bytes_of b.here))
 
--- the same, in the flex block that holds them, where there is one
+-- n bytes at address x of a slot: in the flex block that holds them where there is one, else in the C heap's
 abbrev pub bytes_around : ℕ → ℕ → Slot → Option (Split Flex) → List ℕ
 bytes_around x n s None = bytes_in_heap x n (block_around (x - heap_start) n s.heap)
 bytes_around x n s (Some b) = take n (drop (x - flex_address s b.before) b.here.bytes)

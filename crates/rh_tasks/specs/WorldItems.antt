@@ -19,7 +19,7 @@ abbrev pub segment_item_of : ℕ → ℕ → Segment → SegmentItem
 segment_item_of start place s =
     if s.used then segment.Used (start + place + 4) (s.size - 4) else segment.Hole (start + place) s.size
 
--- the same of a segment that knows its place
+-- a segment that knows its place in a heap, by the heap's address
 abbrev pub placed_item : ℕ → Segment → SegmentItem
 placed_item start s = segment_item_of start s.place s
 

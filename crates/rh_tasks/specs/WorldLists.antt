@@ -14,7 +14,7 @@ use Rattle.rh_defs.specs.declared.sizes.TheConstants.{SEGMENTS_AT_ONCE}
 abbrev pub items_at : ℕ → ℕ → Heap → List SegmentItem
 items_at start place h = take SEGMENTS_AT_ONCE (segment_items_from (start + place) (from_cut (segment_at place h)))
 
--- the same of a C heap
+-- up to 64 segments of a C heap, from the one that begins at a place on
 abbrev pub segment_items_at : ℕ → Heap → List SegmentItem
 segment_items_at place h = items_at heap_start place h
 

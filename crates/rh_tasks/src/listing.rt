@@ -95,7 +95,7 @@ fn slot_entry<'a, S: Store>(store: &S, seats: &'a Seats, i: usize) -> Option<Are
     })
 }
 
-/// The same item, with a name of its own.
+/// Item i of areas 0 to 5, the made areas and the slots, with a name of its own.
 fn area_item<S: Store>(store: &S, seats: &Seats, made: &MadeAreas, i: usize) -> Option<AreaItem>
     requires { HasAreas (S.memory store.now) seats.now.items made.now.items }
     ensures { result ≡ slice_get (items_in (S.memory store.now) seats.now.items made.now.items) i }
@@ -152,7 +152,7 @@ impl<S: Store, F: NamedFiles> World<S, F> {
         (free, area_item(&self.store, &self.seats, &self.made, i))
     }
 
-    /// The same item without a copy of its name, and without the free pages; None past the end.
+    /// Item i of `areas` without a copy of its name, and without the free pages; None past the end.
     pub fn area_entry(&self, i: usize) -> Option<AreaEntry<'_>>
         ensures item { option_map area_item_of result ≡ slice_get (area_items self.now.desk) i }
         ensures few { length (area_items self.now.desk) ≤ MAX_AREAS }

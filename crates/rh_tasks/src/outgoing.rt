@@ -5,7 +5,7 @@ ghost use Rattle.std.specs.Prelude.{IfErr, IfSome};
 ghost use Rattle.std.specs.List.{position};
 ghost use Rattle.rh_defs.specs.Desk.{Task, with_task};
 ghost use Rattle.rh_defs.specs.declared.transfer_action.SendAction.TheVariants as send_action;
-ghost use Rattle.rh_defs.specs.OutgoingEvents.{is_out_of_reach as is_out_of_reach_on, fail_sending as fail_sending_on};
+ghost use Rattle.rh_defs.specs.OutgoingEvents.{is_bad_range as is_bad_range_on, fail_sending as fail_sending_on};
 ghost use Rattle.rh_defs.specs.OutgoingEvents.{perform_send as perform_send_on};
 ghost use Rattle.rh_defs.specs.Sender as sender;
 ghost use Rattle.rh_defs.specs.Pieces.{Split};
@@ -98,13 +98,13 @@ impl<S: Store, F: NamedFiles> World<S, F> {
         })
     }
 
-    /// Whether the fetch's range isn't one of the recipient's to write the bytes of a portion into.
-    fn is_out_of_reach(&self, i: usize, target: Target, portion: Portion) -> bool
+    /// Whether the bytes of a portion have no range of the recipient to go to: BadRange.
+    fn is_bad_range(&self, i: usize, target: Target, portion: Portion) -> bool
         requires source { i < length self.now.desk.tasks }
         requires target { target.seat < length self.now.desk.tasks }
         requires low { portion.address < 2 ^ 33 }
         ensures { (t r : Task) → IsAt i t self.now.desk → IsAt target.seat r self.now.desk
-            → result ≡ is_out_of_reach_on t r target.address target.room portion.address portion.part.n }
+            → result ≡ is_bad_range_on t r target.address target.room portion.address portion.part.n }
     {
         let seat = &self.seats[target.seat];
         let address = target.address as usize;
@@ -120,14 +120,14 @@ impl<S: Store, F: NamedFiles> World<S, F> {
         i == target.seat && do_overlap(address, room, portion.address, portion.part.n as usize)
     }
 
-    /// Writes the bytes of a portion into a fetch's buffer that is in reach.
+    /// Writes the bytes of a portion into the range that a fetch names, which is a good one.
     fn write_portion(&mut self, i: usize, a: &Transmit, target: Target, portion: Portion)
         requires source { i < length self.old.desk.tasks }
         requires target { target.seat < length self.old.desk.tasks }
         requires portion { (t : Task) → IsAt i t self.old.desk
             → IsPortion t a.now portion.address portion.size portion.part }
         requires reach { (t r : Task) → IsAt i t self.old.desk → IsAt target.seat r self.old.desk
-            → is_out_of_reach_on t r target.address target.room portion.address portion.part.n ≡ false }
+            → is_bad_range_on t r target.address target.room portion.address portion.part.n ≡ false }
         requires room { portion.part.n ≤ target.room }
         ensures { (t r : Task) (source : Split Flex) → IsAt i t self.old.desk → IsAt target.seat r self.old.desk
             → slot_block a.now.transfer.anchor t.slot ≡ Ok source
@@ -169,7 +169,7 @@ impl<S: Store, F: NamedFiles> World<S, F> {
             address: a.buffer,
             room: a.room,
         };
-        if self.is_out_of_reach(i, target, portion) {
+        if self.is_bad_range(i, target, portion) {
             return Err(Refusal::BadRange);
         }
         let sender = &self.seats[i];

@@ -32,7 +32,7 @@ abbrev pub desk_with : Option Command → Desk → Desk
 desk_with None d = d
 desk_with (Some c) d = (step d c).0
 
--- the same, where the desk is open or closed
+-- the desk after the command where it is open; a closed one stays closed
 abbrev pub desk_by : Option Desk → Option Command → Option Desk
 desk_by None command = None
 desk_by (Some d) command = Some (desk_with command d)

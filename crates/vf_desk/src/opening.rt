@@ -27,7 +27,7 @@ pub extern "C" fn vf_desk_file(alloc: Global, desk: &mut VfDesk, name: &[u8], by
     status
 }
 
-/// The same, where the handle has nothing yet.
+/// Adds the first named file of a handle that has nothing yet.
 fn first_file(alloc: Global, desk: &mut VfDesk, name: &[u8], bytes: &[u8]) -> u32
     requires { desk.old.handle.open_desk ≡ None }
     ensures { Adds name.now bytes.now desk.old.handle.open_desk desk.new.handle.open_desk result }
@@ -59,7 +59,7 @@ pub extern "C" fn vf_desk_open(
     status
 }
 
-/// The same, where the handle has nothing yet.
+/// Opens a desk without files in a handle that has nothing yet.
 fn open_new(alloc: Global, desk: &mut VfDesk, pages: u32, first_handle: u32, first_ref: u32) -> u32
     requires { desk.old.handle.open_desk ≡ None }
     ensures { Opens pages first_handle first_ref desk.old.handle.open_desk desk.new.handle.open_desk result }

@@ -28,7 +28,7 @@ pub extern "C" fn vf_flex_places(memory: &[u8], slot: &LentSlot, places: &mut [u
     status
 }
 
-/// The same of any bytes.
+/// Tells for each anchor from 0 on the place of its block's first byte, as `vf_flex_places` does, of any bytes.
 #[unsafe(no_mangle)]
 pub extern "C" fn vf_flex_checked_places(
     memory: &[u8],

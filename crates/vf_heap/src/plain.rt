@@ -120,7 +120,7 @@ pub extern "C" fn vf_heap_extend(memory: &mut [u8], delta: isize) -> u32
     }
 }
 
-/// The same, where fewer than 2 GiB are asked for.
+/// Moves the heap's end by `delta` bytes, fewer than 2 GiB.
 fn extend(memory: &mut [u8], delta: i32) -> u32
     requires { IsHeapBytes memory.old }
     ensures status { result ≡ extend_status (length memory.old) delta (heap_of memory.old 0) }

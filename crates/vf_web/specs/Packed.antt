@@ -42,6 +42,6 @@ are_apart (file ∷ files) = not (has_file file.0 files) && are_apart files
 unfoldable pub files_in : List ℕ → Option FileList
 files_in bytes = option_and_then (λ files. if are_apart files then Some files else None) (packed_files bytes)
 
--- the same, and no files where the bytes are none
+-- the files that the bytes are; no files where they are none, or two of them have one name
 abbrev pub files_of : List ℕ → FileList
 files_of bytes = unwrap_or (files_in bytes) []

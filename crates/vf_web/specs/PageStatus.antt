@@ -26,7 +26,7 @@ lent_status pages pool numbers script files =
 abbrev pub bad_status : Bool → ℕ
 bad_status bad = if bad then 1 else 0
 
--- the same of a run
+-- the number of a run's status: 0 where no line was bad, and 1 where one was
 abbrev pub status_number : Status → ℕ
 status_number Clean = 0
 status_number BadLines = 1

@@ -29,7 +29,7 @@ pub(crate) fn blocks_of<S: Store, F: NamedFiles>(
     format!(in alloc; "{answer:?} {items:?}").ok()
 }
 
-/// The same of the task with a handle.
+/// The answer of the task with a handle, and the list after it.
 pub(crate) fn blocks_in<S: Store, F: NamedFiles>(
     alloc: Global,
     world: &World<S, F>,

@@ -75,7 +75,7 @@ fn read_slot<S: Store, F: NamedFiles>(
     format!(in alloc; "{done:?} {bytes:?}").ok()
 }
 
-/// The same of a block of the module area, from an offset on.
+/// So many bytes of a block of the module area from an offset on, read into bytes that are 1, and those after the call.
 fn read_module<S: Store, F: NamedFiles>(
     alloc: Global,
     world: &World<S, F>,

@@ -1,4 +1,4 @@
--- A heap with zeros in its blocks.
+-- A heap with zeros in its blocks: h is a heap. Read Blocks first.
 use Rattle.rh_defs.specs.Heap.{Heap}
 use Rattle.rh_defs.specs.Blocks.{blank}
 

@@ -1,4 +1,4 @@
--- What a command or a question names, as private functions ask for it.
+-- What a command or a question names, as private functions ask for it. Read Named first; q is a question, c a command.
 use Rattle.std.specs.Prelude.{Bool, true, false, ℕ, List, Option}
 use Rattle.rh_defs.specs.declared.command.Command.{Command}
 use Rattle.rh_defs.specs.declared.command.Command.TheVariants as command

@@ -1,4 +1,4 @@
--- Lists of which no member passes a test.
+-- Lists of which no member passes a test. Read Pieces first.
 use Rattle.std.specs.Prelude.{◌≡◌, ℕ, ◌+◌, Bool, false, List, [], ◌∷◌}
 
 -- no member passes a test of its place and itself

@@ -1,4 +1,4 @@
--- The live handles of a post.
+-- The live handles of a post. Read Post first; s is a seat.
 use Rattle.std.specs.Prelude.{ℕ, List, map}
 use Rattle.rh_defs.specs.Post.{Post, Seat}
 

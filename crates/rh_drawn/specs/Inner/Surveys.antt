@@ -29,7 +29,7 @@ abbrev pub is_fresh_card : Scene → Band → SegmentItem → Bool
 is_fresh_card x b (segment.Used address size) = is_fresh_at x b.handle b.heap address
 is_fresh_card x b (segment.Hole address size) = false
 
--- the same of a block that is no message
+-- whether the block at an address of a heap, which is no message, has changed
 abbrev pub is_fresh_block_of : Scene → ℕ → HeapOf → ℕ → Bool
 is_fresh_block_of x handle (heap_of.Task i) address = is_fresh_block x handle address
 is_fresh_block_of x handle heap_of.Module address = x.marks.module_block == address
@@ -48,7 +48,7 @@ with_item item fresh s = record {
     first_of None = if nat_le (MOST_CARDS - 2) s.count && fresh then Some item else None
     first_of (Some found) = Some found
 
--- the same with more segments
+-- the survey with more segments
 abbrev pub with_items : (SegmentItem → Bool) → List SegmentItem → Survey → Survey
 with_items test [] s = s
 with_items test (item ∷ items) s = with_items test items (with_item item (test item) s)

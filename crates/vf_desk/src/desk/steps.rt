@@ -69,8 +69,8 @@ impl VfDesk {
         called
     }
 
-    /// The same, with the ref of the message that is sent next before the command is done: 0 on a closed desk, or where
-    /// no ref is left.
+    /// Does a command as `step` does, and tells the ref of the message that would be sent next before it: 0 on a closed
+    /// desk, or where no ref is left.
     pub fn step_sending(&mut self, alloc: Global, command: &Option<Command>) -> (CallOutcome, u32)
         requires { IfSome command.now (λ c. in_range c ≡ true) }
         ensures said { (s : Option Desk) → IsSeenDesk self.old s → result.0 ≡ called s command.now }

@@ -23,17 +23,17 @@ returns-in_default g c =
     rw (← c.self.view_is) (nobody-with c.self.invariant c.args.a.now.transfer.recipient (sym c.in_default.ensures)) in
     λ t at. (transmit-nobody d t c.args.a.now (c.in_ok-portion.ensures.ok t at) none, refl)
 
-pub is_out_of_reach-requires-clause-low : goal.is_out_of_reach-requires-clause-low
-is_out_of_reach-requires-clause-low g c = c.in_ok-portion.ensures.low
+pub is_bad_range-requires-clause-low : goal.is_bad_range-requires-clause-low
+is_bad_range-requires-clause-low g c = c.in_ok-portion.ensures.low
 
-pub returns-then-is_out_of_reach : goal.returns-then-is_out_of_reach
-returns-then-is_out_of_reach g c =
+pub returns-then-is_bad_range : goal.returns-then-is_bad_range
+returns-then-is_bad_range g c =
     let d = c.args.self.now.desk in
     let r : Meant d c.in-Some.seat c.args.a.now.transfer.recipient =
     rw (← c.self.view_is) (somebody-with c.self.invariant c.args.a.now.transfer.recipient c.in-Some.seat (sym c.in-Some.ensures)) in
     λ t at. (
       transmit-far d t c.args.a.now (c.in_ok-portion.ensures.ok t at) r.task r.found
-          (c.if-is_out_of_reach.ensures t r.task at r.at),
+          (c.if-is_bad_range.ensures t r.task at r.at),
       refl,
     )
 
@@ -61,7 +61,7 @@ returns-in_err-transmit g c =
     let own : s.handle ≡ t.handle =
     sym (ap (λ (u : Task). u.handle) (seat-is (seated m0 c.self.inside.seats.items c.args.i t there) s (sym c.index-sender.ensures))) in
     let letter = c.transmit_letter-letter.ensures ∙ ap (λ h. transmit_letter h c.args.a.now c.in_ok-portion.portion.part) own in
-    let near = c.if-is_out_of_reach.ensures t r.task at r.at in (
+    let near = c.if-is_bad_range.ensures t r.task at r.at in (
       transmit-refused d t c.args.a.now (c.in_ok-portion.ensures.ok t at) r.task r.found near
           (ap (λ l. send_letter l d) (sym letter) ∙ c.in_err-transmit.ensures.0),
       c.in_err-transmit.ensures.1,
@@ -101,7 +101,7 @@ write_portion-requires-clause-reach g c =
     λ u v at bt.
     reach-seen t.0 u r.task v c.args.a.now.buffer c.args.a.now.room c.in_ok-portion.portion.address c.in_ok-portion.portion.part.n
     (alike-at pair_of k c.args.i t.0 u t.1 at) (alike-at pair_of k c.in-Some.seat r.task v r.at bt)
-    ∙ sym (c.if-is_out_of_reach.ensures t.0 r.task t.1 r.at)
+    ∙ sym (c.if-is_bad_range.ensures t.0 r.task t.1 r.at)
 
 pub write_portion-requires-clause-room : goal.write_portion-requires-clause-room
 write_portion-requires-clause-room g c = c.in_ok-portion.ensures.most
@@ -149,7 +149,7 @@ returns g c =
     let own : s.handle ≡ t.handle =
     sym (ap (λ (u : Task). u.handle) (seat-is (seated m0 c.self.inside.seats.items c.args.i t there) s (sym c.index-sender.ensures))) in
     let letter = c.transmit_letter-letter.ensures ∙ ap (λ h. transmit_letter h c.args.a.now c.in_ok-portion.portion.part) own in
-    let near = c.if-is_out_of_reach.ensures t r.task at r.at in
+    let near = c.if-is_bad_range.ensures t r.task at r.at in
     let p = c.in_ok-portion.ensures.ok t at in
     let sent = sent-records c.transmit_letter-letter.result d e.1.0 e.1.1.0 e.1.1.1 in
     let wrote = wrote-records k c.args.i c.in-Some.seat at r.at p c.args.a.now.buffer c.args.a.now.room c.write_portion.ensures sent in
