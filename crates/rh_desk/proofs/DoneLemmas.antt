@@ -28,9 +28,9 @@ use Rattle.rh_desk.specs.declared.program_end.ProgramEnd.TheVariants.{Clean, Bad
 use Rattle.rh_desk.specs.declared.request.ImageKind.{ImageKind}
 use Rattle.rh_desk.specs.declared.request.Request.{Request}
 use Rattle.rh_desk.specs.declared.request.Shown.{Shown}
-use Rattle.rh_drawn.specs.Mapped.{Mapped, MappedSoFar, MappedUntil}
+use Rattle.rh_pictures.specs.Mapped.{Mapped, MappedSoFar, MappedUntil}
 use Rattle.rh_figure.specs.Map.{place}
-use Rattle.rh_painted.specs.Painted.{Painted, PaintedSoFar, PaintedUntil}
+use Rattle.rh_pictures.specs.Painted.{Painted, PaintedSoFar, PaintedUntil}
 use Rattle.rh_desk.specs.Telling.{Tells, TellsBadFile, TellsFolder, run_fault_text}
 use Rattle.rh_lines.specs.Flow.{Output}
 

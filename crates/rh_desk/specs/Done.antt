@@ -6,9 +6,9 @@ use Rattle.clap.specs.declared.error.Error.{Error}
 use Rattle.clap.specs.declared.error.kind.ErrorKind.{ErrorKind}
 use Rattle.clap.specs.declared.error.kind.ErrorKind.TheVariants as kind
 use Rattle.rh_defs.specs.Desk.{Desk}
-use Rattle.rh_drawn.specs.Mapped.{Mapped, MappedSoFar, MappedUntil}
+use Rattle.rh_pictures.specs.Mapped.{Mapped, MappedSoFar, MappedUntil}
 use Rattle.rh_figure.specs.Map.{place}
-use Rattle.rh_painted.specs.Painted.{Painted, PaintedSoFar, PaintedUntil}
+use Rattle.rh_pictures.specs.Painted.{Painted, PaintedSoFar, PaintedUntil}
 use Rattle.rh_defs.specs.Files.{FileList}
 use Rattle.rh_defs.specs.Runs.{start}
 use Rattle.rh_defs.specs.declared.sizes.TheConstants.{LONGEST_FILE, MOST_READS}

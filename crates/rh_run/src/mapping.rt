@@ -3,14 +3,14 @@
 ghost use Rattle.std.specs.Prelude.{◌≡◌, ◌≤◌, true, IfOk, IsErrOf};
 ghost use Rattle.rh_defs.specs.Memory.{fresh};
 ghost use Rattle.rh_defs.specs.declared.sizes.TheConstants.{MAX_PAGES, MIN_PAGES, MOST_READS};
-ghost use Rattle.rh_drawn.specs.Mapped.{Mapped, MappedSoFar, MappedUntil};
+ghost use Rattle.rh_pictures.specs.Mapped.{Mapped, MappedSoFar, MappedUntil};
 ghost use Rattle.rh_figure.specs.Map.{map_start};
 
 use crate::native::page_store;
 use crate::world::ScriptWorld;
 use rh_defs::Files;
-use rh_drawn::map_script;
 use rh_lines::{Sink, Source};
+use rh_pictures::map_script;
 use rh_session::{RunFault, Status};
 use rh_store::Sited;
 use rh_tasks::NamedFiles;

@@ -8,7 +8,7 @@ use crate::world::ScriptWorld;
 use arrayvec::ArrayVec;
 use rh_defs::sizes::{ANCHORS, C_HEAP_START, MODULE_START, PAGE, WORD};
 use rh_defs::{BlockItem, SegmentItem};
-use rh_drawn::Drawn;
+use rh_pictures::Drawn;
 use rh_scene::{AreaSight, HeapOf, Messages, PageList, ScrapSight, Segments, Sight, TaskSight};
 use rh_store::{AreaId, Sited};
 use rh_tasks::{AreaEntry, NamedFiles, share_law};

@@ -2,14 +2,14 @@
 use Rattle.std.proofs.Common.{◌≡◌, ℕ, Bool, true, false, List, [], ◌++◌, Result, Ok, Err, IfErr, IsOk, refl, sym, ap, subst, ◌∙◌, append-nil, rules}
 use Rattle.rh_defs.specs.Desk.{Desk}
 use Rattle.rh_defs.specs.Script.{has_bad_line, script_text}
-use Rattle.rh_drawn.specs.Mapped.{Mapped}
+use Rattle.rh_pictures.specs.Mapped.{Mapped}
 use Rattle.rh_figure.specs.Map.{Place, read_lines}
 use Rattle.rh_figure.specs.Whole.{IsMap}
 use Rattle.rh_lines.proofs.TextLemmas.{wrote}
 use Rattle.rh_lines.specs.Flow.{Takes, unread}
 use Rattle.rh_lines.specs.WholeText.{before_of, whole_bytes, output_of, whole_text}
 use Rattle.rh_lines.specs.declared.whole_text.WholeText.{WholeText}
-use Rattle.rh_painted.specs.Painted.{IsSheet, Painted}
+use Rattle.rh_pictures.specs.Painted.{IsSheet, Painted}
 use Rattle.rh_session.specs.Outcome.{Finished, status_of}
 use Rattle.rh_session.specs.declared.status.Status.{Status}
 use Rattle.vf_web.specs.PageStatus.{bad_status, status_number}

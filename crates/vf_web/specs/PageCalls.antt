@@ -5,7 +5,7 @@ use Rattle.rh_defs.specs.Script.{has_bad_line}
 use Rattle.rh_figure.specs.Map.{Place, read_lines}
 use Rattle.rh_figure.specs.Whole.{IsMap}
 use Rattle.rh_lines.specs.WholeText.{filled}
-use Rattle.rh_painted.specs.Painted.{IsSheet}
+use Rattle.rh_pictures.specs.Painted.{IsSheet}
 use Rattle.vf_web.specs.PageStatus.{text_status}
 
 -- a text was written over the old bytes, as far as they have room for it; so many bytes were said to be needed

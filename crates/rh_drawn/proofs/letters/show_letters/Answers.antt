@@ -1,6 +1,0 @@
-use Rattle.std.proofs.Common.{arith}
-use Rattle.rh_drawn.proofs.PostLemmas.{waits-few}
-use Rattle.rh_drawn.proofs.letters.show_letters.Goals as goal
-
-pub letterbox-requires-clause-few : goal.letterbox-requires-clause-few
-letterbox-requires-clause-few g c = omega (arith, c.requires, c.waits_of-waits.ensures.count, waits-few c.args.handle c.args.messages.now)

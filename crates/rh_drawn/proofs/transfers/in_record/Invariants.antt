@@ -1,7 +1,0 @@
-use Rattle.rh_drawn.proofs.Common.{◌≡◌, drop, ◌==◌, find, in_id}
-use Rattle.rh_drawn.proofs.transfers.in_record.Given as goal
-
--- no record so far has the id
-abbrev pub invariant-loop-record : goal.invariant-loop-record
-invariant-loop-record l =
-    find (λ r. in_id r == l.id) (drop l.record-index l.taking) ≡ find (λ r. in_id r == l.id) l.taking

@@ -1,8 +1,0 @@
-use Rattle.rh_painted.proofs.Common.{◌≡◌, ◌++◌, take, flat_map, arrow_sentence, escape, arrows_seen}
-use Rattle.rh_painted.proofs.chart.print_sentences.Given as goal
-
--- those before the place were offered
-abbrev pub invariant-loop-way : goal.invariant-loop-way
-invariant-loop-way g l =
-    g.P.Pen.offered l.pen ≡ g.P.Pen.offered l.initial.pen
-    ++ escape (flat_map (arrow_sentence (g.S.Sight.desk l.sight)) (arrows_seen (take l.way-index l.ways)))

@@ -1,5 +1,0 @@
-use Rattle.rh_painted.proofs.OwnerLemmas.{fixed-owner}
-use Rattle.rh_painted.proofs.owners.fixed_owner.Goals as goal
-
-pub returns : goal.returns
-returns g c = fixed-owner c.spelled.ensures c.args.k c.fixed_pages.result c.requires c.fixed_pages.ensures

@@ -1,5 +1,0 @@
-use Rattle.rh_painted.proofs.OwnerLemmas.{made-owner}
-use Rattle.rh_painted.proofs.owners.made_owner.Goals as goal
-
-pub returns-in-Some-clause-some : goal.returns-in-Some-clause-some
-returns-in-Some-clause-some g c = made-owner c.spelled.ensures c.args.i _ c.in-Some.ensures.some

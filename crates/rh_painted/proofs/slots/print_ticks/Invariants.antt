@@ -1,7 +1,0 @@
-use Rattle.rh_painted.proofs.Common.{drop, Left, ticks_text}
-use Rattle.rh_painted.proofs.slots.print_ticks.Given as goal
-
--- the blocks from the place on are left
-abbrev pub invariant-loop-block : goal.invariant-loop-block
-invariant-loop-block g l =
-    Left (g.P.Pen.offered l.initial.pen) (g.P.Pen.offered l.pen) (ticks_text l.y l.blocks) (ticks_text l.y (drop l.block-index l.blocks))

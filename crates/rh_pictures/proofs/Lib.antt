@@ -1,0 +1,40 @@
+pub mod ShareLemmas
+pub mod ReadLemmas
+pub mod MapLemmas
+pub mod Walks
+pub mod TextWalks
+pub mod TextPuts
+pub mod ElementLemmas
+pub mod PageLemmas
+pub mod UnderLemmas
+pub mod PostLemmas
+pub mod ReturnLemmas
+pub mod DrawingLemmas
+pub mod TransferLemmas
+pub mod FigureLemmas
+pub mod MarkLemmas
+pub mod MapRunLemmas
+pub mod CardLemmas
+pub mod HeapLemmas
+pub mod ExcerptLemmas
+pub mod AnswerLemmas
+pub mod MapStepLemmas
+pub mod Common
+pub mod BandLemmas
+pub mod SlotLemmas
+pub mod LensLemmas
+pub mod OwnerLemmas
+mod WalkLemmas
+mod LineLemmas
+mod SheetLemmas
+mod SheetRunLemmas
+mod NumberLemmas
+mod WayLemmas
+mod NoteLemmas
+mod TableLemmas
+mod ChartLemmas
+mod AsideLemmas
+mod SheetStepLemmas
+mod TakeLemmas
+mod PrintLemmas
+pub mod SheetCommon

@@ -1,0 +1,126 @@
+-- What a painter has done with a line as far as it is kept, and with what stands behind the last line feed.
+use Rattle.rh_pictures.proofs.SheetCommon.{◌≡◌, ℕ, List, Bool, true, false, ◌||◌, [], ◌∷◌, ◌++◌, length, refl, sym, ap, ap₂, ◌∙◌, subst, arith, Option, Err}
+use Rattle.rh_pictures.proofs.SheetCommon.{is_err}
+use Rattle.rh_pictures.proofs.SheetCommon.{not, ◌==◌, Command, LineFault, Desk, Meaning, line_means, IsReordered, rest_means, kept, kept_means}
+use Rattle.rh_pictures.proofs.SheetCommon.{Share, IsShared, Text, Place, Read, after_read, at_desk, Walk, behind_read}
+use Rattle.rh_pictures.proofs.SheetCommon.{read_text, sheet_lines, Painter, PaintedLine, offered_as, walk_in}
+use Rattle.std.proofs.lemmas.Bool.{eqb-true}
+use Rattle.rh_pictures.proofs.MapRunLemmas.{kept_some}
+use Rattle.rh_feed.specs.Taken.{Gives}
+use Rattle.rh_feed.proofs.LineLemmas.{kept_nil}
+use Rattle.rh_figure.specs.Map.{read_rest}
+use Rattle.rh_sheet.specs.Sheet.{sheet_end}
+use Rattle.rh_pictures.specs.Inner.PaintedSteps.{DrewLine, DrewRest}
+use Rattle.rh_pictures.specs.PaintedWalks.{TookPaintedRest}
+use Rattle.rh_pictures.proofs.LineLemmas.{SameRead, same-line, same-rest}
+use Rattle.rh_pictures.proofs.SheetRunLemmas.{kept-some}
+use Rattle.rh_pictures.proofs.TextPuts.{text_then}
+use Rattle.rh_pictures.proofs.WalkLemmas.{place-behind}
+
+-- ---- a line as far as it is kept
+
+module _ {D : Type 0} (desk : D → Desk) (m : Painter D) (means : Text → Meaning (Option Command)) (line : Text) (same : SameRead means line) (s : Share) where
+  place-kept : after_read (walk_in desk m).place (line, means line) ≡ after_read (walk_in desk m).place (kept line, means (kept line))
+  place-kept =
+      sym (place-behind m.marked s (walk_in desk m) (line, means line))
+      ∙ (ap (λ (w : Walk). w.place) (sym (same.behind m.marked s (walk_in desk m)))
+      ∙ place-behind m.marked s (walk_in desk m) (kept line, means (kept line)))
+
+  shared-kept : IsShared s (after_read (walk_in desk m).place (line, means line)).desk
+      → IsShared s (after_read (walk_in desk m).place (kept line, means (kept line))).desk
+  shared-kept shared = let P : Place → Type 0 = λ z. IsShared s z.desk in subst P place-kept shared
+
+-- what was offered of a line was offered of what is kept of it
+drew-kept : {D : Type 0} {desk : D → Desk} {m n : Painter D} {o p : List ℕ} (line : Text) → DrewLine desk m o line (line_means line) n p
+    → DrewLine desk m o (kept line) (line_means (kept line)) n p
+drew-kept {desk = desk} {m = m} {n = n} {o = o} line drew =
+    let same = same-line line in
+    let x = walk_in desk m in
+    let R : Place → Type 0 = λ z. IsReordered z.desk (desk n.drawn) in
+    record {
+      share = drew.share;
+      shared = shared-kept desk m line_means line same drew.share drew.shared;
+      offered = offered_as o (sym (same.text m.marked drew.share x)) drew.offered;
+      follows = record {
+        desk_is = subst R (place-kept desk m line_means line same drew.share) drew.follows.desk_is;
+        walk_is = drew.follows.walk_is ∙ ap (at_desk (desk n.drawn)) (sym (same.behind m.marked drew.share x));
+        marked_is = drew.follows.marked_is;
+        bad = drew.follows.bad ∙ ap (λ z. m.has_bad_line || is_err z) (sym (kept_means line));
+      };
+    }
+
+-- the same by what was found of the line
+pub line-drew : {D : Type 0} {desk : D → Desk} {m n : Painter D} {o p : List ℕ} (line : Text) (found : Meaning (Option Command)) → found ≡ line_means line
+    → DrewLine desk m o line found n p → DrewLine desk m o (kept line) (line_means (kept line)) n p
+line-drew {desk = desk} {m = m} {n = n} {o = o} {p = p} line found means drew =
+    let P : Meaning (Option Command) → Type 0 = λ z. DrewLine desk m o line z n p in
+    drew-kept line (subst P means drew)
+
+-- ---- what stands behind the last line feed
+
+or-off : (b : Bool) → b ≡ (b || false)
+or-off true = refl
+or-off false = refl
+
+-- nothing stands there
+pub empty-drew : {D : Type 0} (desk : D → Desk) (m : Painter D) {o p : List ℕ} (rest : Text) → true ≡ (length rest == 0)
+    → p ≡ o ++ sheet_end (walk_in desk m) → DrewRest desk m o (kept rest) m p
+empty-drew desk m [] none offered = record {
+  stages = [];
+  lines = sym (ap read_rest kept_nil);
+  shared = tt;
+  offered = offered;
+  bad = or-off m.has_bad_line ∙ ap (λ b. m.has_bad_line || not b) (sym (kept-some []));
+}
+empty-drew desk m (b ∷ bs) none offered = let no : length (b ∷ bs) ≡ 0 = eqb-true (length (b ∷ bs)) 0 (sym none) in absurd (omega arith)
+
+one-read : (rest : Text) → false ≡ (length rest == 0) → (kept rest, rest_means (kept rest)) ∷ [] ≡ read_rest (kept rest)
+one-read [] some = absurd (cc)
+one-read (b ∷ bs) some = ap (λ l. (l, rest_means l) ∷ []) (kept_some b bs) ∙ sym (ap read_rest (kept_some b bs))
+
+-- something does
+module _ {D : Type 0} (desk : D → Desk) (m : Painter D) (rest : Text) (some : false ≡ (length rest == 0)) (fault : LineFault)
+    (means : rest_means rest ≡ Err fault) where
+  abbrev read-kept : Read
+  read-kept = (kept rest, rest_means (kept rest))
+
+  end-kept : (s : Share) → read_text m.marked s (walk_in desk m) (rest, Err fault) ++ sheet_end (behind_read m.marked s (walk_in desk m) (rest, Err fault))
+      ≡ read_text m.marked s (walk_in desk m) read-kept ++ sheet_end (behind_read m.marked s (walk_in desk m) read-kept)
+  end-kept s =
+      let x = walk_in desk m in
+      let same = same-rest rest in
+      ap (λ z. read_text m.marked s x (rest, z) ++ sheet_end (behind_read m.marked s x (rest, z))) (sym means)
+      ∙ ap₂ (λ t w. t ++ sheet_end w) (sym (same.text m.marked s x)) (sym (same.behind m.marked s x))
+
+  shared-rest : (s : Share) → IsShared s (after_read (walk_in desk m).place (rest, Err fault)).desk
+      → IsShared s (after_read (walk_in desk m).place read-kept).desk
+  shared-rest s shared =
+      let P : Meaning (Option Command) → Type 0 = λ z. IsShared s (after_read (walk_in desk m).place (rest, z)).desk in
+      shared-kept desk m rest_means rest (same-rest rest) s (subst P (sym means) shared)
+
+  pub some-drew : {n : Painter D} {o q p : List ℕ} → DrewLine desk m o rest (Err fault) n q → p ≡ q ++ sheet_end (walk_in desk n)
+      → DrewRest desk m o (kept rest) n p
+  some-drew {o = o} {q = q} drew end = record {
+    stages = (read-kept, drew.share) ∷ [];
+    lines = one-read rest some;
+    shared = (shared-rest drew.share drew.shared, tt);
+    offered = offered_as o (end-kept drew.share) (text_then o _ _ drew.offered (offered_as q (ap sheet_end drew.follows.walk_is) end));
+    bad = drew.follows.bad ∙ ap (λ b. m.has_bad_line || not b) (some ∙ sym (kept-some rest));
+  }
+
+-- ---- its text
+
+module _ {D : Type 0} {desk : D → Desk} {m n : Painter D} {o p : List ℕ} where
+  pub line-took : {line : Text} {meaning : Meaning (Option Command)} → DrewLine desk m o line meaning n p → Gives (PaintedLine desk m line meaning n) o p
+  line-took {line} {meaning} drew = record {
+    text = read_text m.marked drew.share (walk_in desk m) (line, meaning);
+    told = record { share = drew.share; shared = drew.shared; text_is = refl; follows = drew.follows };
+    offered = drew.offered;
+  }
+
+  pub rest-took : {rest : List ℕ} → DrewRest desk m o rest n p → Gives (TookPaintedRest desk m rest n) o p
+  rest-took drew = record {
+    text = sheet_lines m.marked (walk_in desk m) drew.stages;
+    told = record { stages = drew.stages; lines = drew.lines; shared = drew.shared; text_is = refl; bad = drew.bad };
+    offered = drew.offered;
+  }

@@ -1,0 +1,42 @@
+use Rattle.rh_pictures.proofs.Common.{◌<◌, ◌∙◌, length, ap, ap₂, refl, arith, flat_map, slice_get_within, Task, letterboxes_in}
+use Rattle.rh_map.proofs.Left.{left_less, left_none}
+use Rattle.rh_pictures.proofs.PostLemmas.{boxes, boxes-are}
+use Rattle.rh_pictures.proofs.TextPuts.{left_from}
+use Rattle.rh_pictures.proofs.TextWalks.{text-flat, text-none, text-some}
+use Rattle.rh_pictures.proofs.Walks.{offered_as}
+use Rattle.rh_pictures.proofs.walks.letters.show_letterboxes.Goals as goal
+
+pub tasks-init : goal.tasks-init
+tasks-init g c =
+    let d = g.S.Sight.desk c.args.sight.now in
+    let ms = c.args.step.now.messages.now in
+    let element = g.A.Artist.letterbox_text in
+    left_from _ (ap (flat_map element) (boxes-are c.spelled.ensures ms c.requires.step.messages d.tasks) ∙ text-flat element (boxes ms) d.tasks)
+
+pub tasks-preserved : goal.tasks-preserved
+tasks-preserved g c =
+    let d = g.S.Sight.desk c.args.sight.now in
+    let ms = c.args.step.now.messages.now in
+    let s = c.in-Some.ensures.some in
+    let element = g.A.Artist.letterbox_text in
+    let of_one = λ (t : Task). flat_map element (letterboxes_in t.name t.handle ms) in
+    let next = text-some (flat_map of_one) of_one (λ t rest. refl) d.tasks c.tasks.i s.0 s.1 in
+    let same = ap₂ (λ n h. flat_map element (letterboxes_in n h ms)) s.2.name s.2.handle in
+    left_less _ c.tasks.invariant next (offered_as _ same c.show_letters.ensures)
+
+pub returns : goal.returns
+returns g c =
+    let d = g.S.Sight.desk c.args.sight.now in
+    let of_one = λ (t : Task). flat_map g.A.Artist.letterbox_text (letterboxes_in t.name t.handle c.args.step.now.messages.now) in
+    left_none c.tasks.invariant (text-none (flat_map of_one) refl d.tasks c.tasks.i c.in_default.ensures.none)
+
+pub overflow_add-i : goal.overflow_add-i
+overflow_add-i g c =
+    let s = c.in-Some.ensures.some in
+    omega (arith, c.in-Some.ensures.few, slice_get_within (g.S.Sight.desk c.args.sight.now).tasks c.tasks.i s.0 s.1)
+
+pub tasks-smaller : goal.tasks-smaller
+tasks-smaller g c =
+    let s = c.in-Some.ensures.some in
+    let inside : c.tasks.i < length (g.S.Sight.desk c.args.sight.now).tasks = slice_get_within (g.S.Sight.desk c.args.sight.now).tasks c.tasks.i s.0 s.1 in
+    omega arith

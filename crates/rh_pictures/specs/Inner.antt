@@ -1,0 +1,20 @@
+-- Definitions that no clause of a public function stands on: those of private functions, loops and proofs.
+pub mod BandItems
+pub mod BandNames
+pub mod BandTexts
+pub mod CardsBehind
+pub mod Charts
+pub mod Figures
+pub mod Heads
+pub mod LettersBehind
+pub mod Marked
+pub mod Notes
+pub mod PaintedSteps
+pub mod PartsBehind
+pub mod ReturnLines
+pub mod SlidesSeen
+pub mod SmallTasks
+pub mod StepsShown
+pub mod Surveys
+pub mod TransferWays
+pub mod WaySteps

@@ -1,0 +1,69 @@
+//! The first lines of a reply, and how many lines it has.
+
+ghost use Rattle.std.specs.Prelude.{◌≡◌, ◌≤◌, IsTrue, length};
+ghost use Rattle.rh_defs.specs.Desk.{most_made};
+ghost use Rattle.rh_defs.specs.Questions.{Nothing, asked};
+ghost use Rattle.rh_defs.specs.Range.{can_be_asked};
+ghost use Rattle.rh_defs.specs.Text.{answer_text, fault_text, first_line};
+ghost use Rattle.rh_pictures.specs.DrawnReplies.{Excerpts};
+ghost use Rattle.rh_pictures.specs.Inner.SmallTasks.{AreSmall};
+ghost use Rattle.rh_map.specs.Replies.{front_of};
+
+use crate::drawn::Drawn;
+use rh_defs::{LineFault, Question, Reply};
+use rh_lines::{put_fault, put_first_line};
+use rh_map::Front;
+use rh_scene::Sight;
+
+/// Puts the answer to a question in place of what was there, and answers how many lines it has.
+pub fn excerpt_answer<D: Drawn>(drawn: &D, question: &Question, front: &mut Front) -> u32
+    requires { IsTrue (can_be_asked question.now) }
+    ensures { Excerpts (front_of front.new) result (answer_text (asked (D.desk drawn.now) question.now)) }
+{
+    drawn.spelled();
+    look_over(drawn);
+    front.clear();
+    drawn.put_answer(question, front);
+    front.lines()
+}
+
+/// Puts the first line of a reply in place of what was there, and answers how many lines it has.
+pub fn excerpt_reply(reply: &Reply, front: &mut Front) -> u32
+    ensures { Excerpts (front_of front.new) result (first_line reply.now Nothing) }
+{
+    front.clear();
+    put_first_line(reply, front);
+    front.lines()
+}
+
+/// Puts the reply of a bad line in place of what was there, and answers how many lines it has.
+pub fn excerpt_fault(fault: &LineFault, front: &mut Front) -> u32
+    ensures { Excerpts (front_of front.new) result (fault_text fault.now) }
+{
+    front.clear();
+    put_fault(fault, front);
+    front.lines()
+}
+
+/// Looks at each task: no name is long, and there are few records, so that an answer has few lines.
+fn look_over<S: Sight>(sight: &S)
+    ensures { AreSmall (S.desk sight.now).tasks }
+{
+    let mut i = 0;
+    'tasks: while let Some(task) = sight.task(i) {
+        let _name = task.name.as_bytes();
+        i += 1;
+    }
+}
+
+/// How many areas were made at run.
+pub fn count_made<S: Sight>(sight: &S) -> usize
+    ensures count { result ≡ length (S.desk sight.now).made }
+    ensures few { result ≤ most_made }
+{
+    let mut i = 0;
+    'areas: while let Some(_area) = sight.made(i) {
+        i += 1;
+    }
+    i
+}
