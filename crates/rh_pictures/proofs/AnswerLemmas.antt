@@ -28,7 +28,7 @@ use Rattle.rh_defs.specs.Script.{onto_line, unended_after}
 use Rattle.rh_defs.specs.Slot.{slot_block}
 use Rattle.rh_defs.specs.Text.{Words, address, area_line, block_line, hex_words, later, later_lines, line, record_line, record_lines, rest_of_line}
 use Rattle.rh_defs.specs.Text.{segment_line, state_name}
-use Rattle.rh_feed.proofs.LineLemmas.{NoFeed, bool_cases, ended-unended, ended_first, no_feed_open, unended-append, unended_first}
+use Rattle.rh_session.proofs.LineLemmas.{NoFeed, bool_cases, ended-unended, ended_first, no_feed_open, unended-append, unended_first}
 use Rattle.rh_figure.specs.Map.{reply_lines}
 use Rattle.rh_map.specs.Replies.{excerpt_lines, lines_in, more_behind, rest_line}
 use Rattle.rh_map.proofs.SeamLemmas.{whole-reply}

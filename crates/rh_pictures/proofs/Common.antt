@@ -33,8 +33,8 @@ pub use Rattle.rh_defs.specs.declared.message.MessageItem.{MessageItem}
 pub use Rattle.rh_defs.specs.declared.reply.Reply.{Reply}
 pub use Rattle.rh_defs.specs.declared.transfer.Incoming.{Incoming}
 pub use Rattle.rh_defs.specs.declared.transfer.Outgoing.{Outgoing}
-pub use Rattle.rh_feed.proofs.LineLemmas.{kept_means}
-unfoldable pub use Rattle.rh_feed.specs.Lines.{kept}
+pub use Rattle.rh_session.proofs.LineLemmas.{kept_means}
+unfoldable pub use Rattle.rh_session.specs.Lines.{kept}
 pub use Rattle.rh_figure.specs.Cards.{Card, flex_cards, more_card, shown_cards}
 pub use Rattle.rh_figure.specs.Changes.{block_change, gone_line, has_anchor, item_with_anchor, slide_of, taken_line}
 pub use Rattle.rh_figure.specs.Figure.{Panel, Side, fixed_panel, has_id, made_panel, owner_of, slot_panel}

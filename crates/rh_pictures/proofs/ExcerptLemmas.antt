@@ -16,7 +16,7 @@ use Rattle.rh_defs.specs.declared.reply.Outcome.TheVariants as outcome
 use Rattle.rh_defs.specs.declared.reply.Reply.TheVariants as reply
 use Rattle.rh_defs.specs.Messages.{code_number}
 use Rattle.rh_defs.specs.Text.{Words, action_name, address, line, on_or_off, outcome_words, refusal_name, rest_of_line}
-use Rattle.rh_feed.proofs.LineLemmas.{NoFeed, ended_first, ended_none, no_feed_join, no_feed_open, unended_first}
+use Rattle.rh_session.proofs.LineLemmas.{NoFeed, ended_first, ended_none, no_feed_join, no_feed_open, unended_first}
 use Rattle.rh_map.specs.Replies.{excerpt_lines, lines_in}
 use Rattle.rh_map.proofs.SeamLemmas.{whole-reply}
 use Rattle.std.specs.Prelude.{◌^◌, ◌-◌, min}

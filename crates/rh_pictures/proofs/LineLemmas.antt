@@ -6,7 +6,7 @@ use Rattle.rh_pictures.proofs.SheetCommon.{line_means, rest_means, kept, kept_me
 use Rattle.rh_pictures.proofs.SheetCommon.{figure_text, said_end, step_end, step_text, Happened, Walk, behind_read, fault_happened, happened_text, read_text}
 use Rattle.rh_defs.specs.declared.fault.LineFault.TheVariants.{TooLong, Unended}
 use Rattle.rh_defs.proofs.HeapLists.{cond_false, leb_no}
-use Rattle.rh_feed.proofs.LineLemmas.{is_above, kept_short, split_at}
+use Rattle.rh_session.proofs.LineLemmas.{is_above, kept_short, split_at}
 use Rattle.rh_figure.specs.Phrases.{cut}
 use Rattle.rh_figure.specs.Map.{shown_byte}
 use Rattle.rh_figure.specs.declared.limits.TheConstants.{LINE_COLUMNS}

@@ -6,7 +6,7 @@ use Rattle.rh_pictures.proofs.Common.{written_lines, Mapper, Drew, TookLine, pla
 use Rattle.rh_defs.specs.Script.{is_bad}
 use Rattle.rh_defs.specs.Order.{with_queue}
 use Rattle.rh_defs.proofs.Steps.{order-ignored}
-use Rattle.rh_feed.specs.Taken.{TookAll}
+use Rattle.rh_session.specs.Taken.{TookAll}
 use Rattle.rh_figure.specs.Map.{Read, Stage, map_lines, place}
 use Rattle.rh_figure.specs.Whole.{AreShared, IsMap, read_of}
 use Rattle.rh_figure.proofs.Alike.{no-order}

@@ -8,9 +8,9 @@ use Rattle.std.specs.Io.KnownBytes.{IsAtEnd}
 use Rattle.rh_defs.specs.declared.fault.LineFault.TheVariants.{Unended}
 use Rattle.rh_defs.specs.Line.{longest_line}
 use Rattle.rh_defs.specs.Script.{has_bad_line, is_bad}
-use Rattle.rh_feed.specs.Lines.{kept_lines, kept_rest}
-use Rattle.rh_feed.specs.Taken.{Fed, FedAll, FedUntil, TookAll, TookFront, TookScript}
-use Rattle.rh_feed.proofs.LineLemmas.{is_above, kept_nil, kept_short, split_at}
+use Rattle.rh_session.specs.Lines.{kept_lines, kept_rest}
+use Rattle.rh_session.specs.Taken.{Fed, FedAll, FedUntil, TookAll, TookFront, TookScript}
+use Rattle.rh_session.proofs.LineLemmas.{is_above, kept_nil, kept_short, split_at}
 use Rattle.rh_figure.specs.Map.{place, Read, Stage, map_lines, read_ended, read_lines, read_rest}
 use Rattle.rh_figure.specs.Whole.{AreShared, IsMap, read_of}
 use Rattle.rh_lines.specs.Flow.{Input, Output}

@@ -5,8 +5,8 @@ use Rattle.rh_pictures.proofs.Common.{Desk, Meaning, line_means, IsReordered, st
 use Rattle.rh_pictures.proofs.Common.{Reply, after_read, arith}
 use Rattle.rh_pictures.proofs.Common.{is_mark, lines_of_read, written_lines, Mapper, reply_to, Drew, TookLine, place_in}
 use Rattle.rh_defs.specs.declared.reply.Reply.TheVariants.{Done}
-use Rattle.rh_feed.specs.Taken.{Gives}
-use Rattle.rh_feed.proofs.LineLemmas.{kept_nil}
+use Rattle.rh_session.specs.Taken.{Gives}
+use Rattle.rh_session.proofs.LineLemmas.{kept_nil}
 use Rattle.rh_figure.specs.Scene.{Before, before_of, marks_of}
 use Rattle.rh_figure.specs.Map.{command_lines, step_lines}
 use Rattle.rh_figure.proofs.Alike.{marks-alike, scene-alike}

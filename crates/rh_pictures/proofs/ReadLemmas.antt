@@ -5,7 +5,7 @@ use Rattle.rh_pictures.proofs.Common.{kept_means}
 use Rattle.rh_pictures.proofs.Common.{Share, Text, cut, Place, after_read, lines_of_read, read_line}
 use Rattle.rh_defs.specs.Line.{longest_line}
 use Rattle.rh_defs.proofs.HeapLists.{cond_false, leb_no}
-use Rattle.rh_feed.proofs.LineLemmas.{is_above, kept_short, split_at}
+use Rattle.rh_session.proofs.LineLemmas.{is_above, kept_short, split_at}
 use Rattle.rh_figure.specs.Map.{fault_lines}
 use Rattle.rh_figure.specs.declared.limits.TheConstants.{LINE_COLUMNS}
 

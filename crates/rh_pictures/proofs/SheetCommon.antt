@@ -32,8 +32,8 @@ pub use Rattle.rh_pictures.proofs.HeapLemmas.{cards-long, from-first}
 pub use Rattle.rh_pictures.proofs.PageLemmas.{owned, owned-few, seen-fixed, seen-slot}
 pub use Rattle.rh_pictures.specs.Deeds.{reply_to, rest_means}
 pub use Rattle.rh_pictures.specs.DrawnSides.{ins_of, outs_of}
-pub use Rattle.rh_feed.proofs.LineLemmas.{kept_means}
-unfoldable pub use Rattle.rh_feed.specs.Lines.{kept}
+pub use Rattle.rh_session.proofs.LineLemmas.{kept_means}
+unfoldable pub use Rattle.rh_session.specs.Lines.{kept}
 pub use Rattle.rh_figure.specs.Cards.{flex_cards, heap_cards, module_cards, shown_cards}
 pub use Rattle.rh_figure.specs.Changes.{changes, item_with_anchor, slide_of, slides, taken_line}
 pub use Rattle.rh_figure.specs.Figure.{letterboxes, transfers}

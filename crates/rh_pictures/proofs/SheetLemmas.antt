@@ -6,7 +6,7 @@ use Rattle.rh_pictures.proofs.SheetCommon.{IsShared, Text, Place, Read, Stage, a
 use Rattle.rh_pictures.proofs.SheetCommon.{PaintedLine}
 use Rattle.rh_pictures.proofs.SheetCommon.{TookPaintedLine}
 use Rattle.rh_defs.specs.Script.{is_bad}
-use Rattle.rh_feed.specs.Taken.{TookAll}
+use Rattle.rh_session.specs.Taken.{TookAll}
 use Rattle.rh_figure.specs.Map.{read_line}
 use Rattle.rh_figure.specs.Whole.{read_of}
 use Rattle.rh_pictures.proofs.MapLemmas.{after_reads, is_bad_read}

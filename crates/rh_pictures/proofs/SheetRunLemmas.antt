@@ -8,8 +8,8 @@ use Rattle.std.specs.Io.KnownBytes.{Consumes, IsAtEnd}
 use Rattle.std.proofs.lemmas.List.{map-append}
 use Rattle.rh_defs.specs.Script.{ended, has_bad_line, is_bad, unended}
 use Rattle.rh_pictures.proofs.MapRunLemmas.{kept_some}
-use Rattle.rh_feed.specs.Taken.{Fed, FedAll, FedUntil, TookAll, TookFront, TookScript}
-use Rattle.rh_feed.proofs.LineLemmas.{kept_nil}
+use Rattle.rh_session.specs.Taken.{Fed, FedAll, FedUntil, TookAll, TookFront, TookScript}
+use Rattle.rh_session.proofs.LineLemmas.{kept_nil}
 use Rattle.rh_figure.specs.Map.{read_ended, read_line, read_lines, read_rest}
 use Rattle.rh_figure.specs.Whole.{read_of}
 use Rattle.rh_lines.specs.Flow.{Input}

@@ -6,8 +6,8 @@ use Rattle.rh_pictures.proofs.SheetCommon.{Share, IsShared, Text, Place, Read, a
 use Rattle.rh_pictures.proofs.SheetCommon.{read_text, sheet_lines, Painter, PaintedLine, offered_as, walk_in}
 use Rattle.std.proofs.lemmas.Bool.{eqb-true}
 use Rattle.rh_pictures.proofs.MapRunLemmas.{kept_some}
-use Rattle.rh_feed.specs.Taken.{Gives}
-use Rattle.rh_feed.proofs.LineLemmas.{kept_nil}
+use Rattle.rh_session.specs.Taken.{Gives}
+use Rattle.rh_session.proofs.LineLemmas.{kept_nil}
 use Rattle.rh_figure.specs.Map.{read_rest}
 use Rattle.rh_sheet.specs.Sheet.{sheet_end}
 use Rattle.rh_pictures.specs.Inner.PaintedSteps.{DrewLine, DrewRest}

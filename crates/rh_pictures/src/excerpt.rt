@@ -20,7 +20,7 @@ pub fn excerpt_answer<D: Drawn>(drawn: &D, question: &Question, front: &mut Fron
     requires { IsTrue (can_be_asked question.now) }
     ensures { Excerpts (front_of front.new) result (answer_text (asked (D.desk drawn.now) question.now)) }
 {
-    drawn.spelled();
+    drawn.recall_desk();
     look_over(drawn);
     front.clear();
     drawn.put_answer(question, front);

@@ -10,7 +10,7 @@ use rh_tasks::{NamedFiles, World};
 pub fn received_law<S: Store, F: NamedFiles>(world: &World<S, F>)
     ensures { HoldsReceived world.now }
 {
-    world.spelled();
+    world.recall_spelling();
 }
 
 /// What is shown at first is a run of no commands, and each command that a world applies takes a run on.

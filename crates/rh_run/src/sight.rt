@@ -49,8 +49,8 @@ impl<S: Sited, F: NamedFiles> Sight for ScriptWorld<S, F> {
 
     ghost desk = { λ w. w.world.desk };
 
-    fn spelled(&self) {
-        self.world.spelled();
+    fn recall_desk(&self) {
+        self.world.recall_spelling();
     }
 
     fn task(&self, i: usize) -> Option<TaskSight<'_>> {
@@ -98,7 +98,7 @@ impl<S: Sited, F: NamedFiles> Sight for ScriptWorld<S, F> {
     }
 
     fn segments(&self, heap: HeapOf, place: u32) -> Segments {
-        self.world.spelled();
+        self.world.recall_spelling();
         match heap {
             HeapOf::Task(i) => match self.world.task(i) {
                 Some(task) => self.world.segments_in(task.handle, place).unwrap(),
@@ -109,7 +109,7 @@ impl<S: Sited, F: NamedFiles> Sight for ScriptWorld<S, F> {
     }
 
     fn read_heap(&self, heap: HeapOf, place: u32, to: &mut [u8]) {
-        self.world.spelled();
+        self.world.recall_spelling();
         match heap {
             HeapOf::Task(i) => {
                 if let Some(task) = self.world.task(i) {
@@ -125,12 +125,12 @@ impl<S: Sited, F: NamedFiles> Sight for ScriptWorld<S, F> {
     }
 
     fn messages(&self, list: &mut Messages) {
-        self.world.spelled();
+        self.world.recall_spelling();
         self.world.messages(list);
     }
 
     fn fixed_pages(&self, number: u32) -> u32 {
-        self.world.spelled();
+        self.world.recall_spelling();
         match self.world.area_entry(number as usize) {
             Some(AreaEntry::Area { pages, .. }) => pages,
             Some(AreaEntry::Slot { .. }) | None => 0,
@@ -167,7 +167,7 @@ impl<S: Sited, F: NamedFiles> Sight for ScriptWorld<S, F> {
     }
 
     fn page_list(&self, list: &mut PageList) {
-        self.world.spelled();
+        self.world.recall_spelling();
         let mut areas = ArrayVec::new();
         let store = self.world.store(&mut areas);
         share_law(store);

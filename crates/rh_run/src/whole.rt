@@ -6,7 +6,7 @@ ghost use Rattle.rh_defs.specs.Runs.{start};
 ghost use Rattle.rh_defs.specs.Script.{script_text};
 ghost use Rattle.rh_defs.specs.declared.sizes.TheConstants.{MAX_PAGES, MIN_PAGES};
 ghost use Rattle.rh_pictures.specs.Mapped.{Mapped, MappedUntil};
-ghost use Rattle.rh_feed.specs.declared.feeding.TheConstants.{LONGEST_SCRIPT};
+ghost use Rattle.rh_session.specs.declared.feeding.TheConstants.{LONGEST_SCRIPT};
 ghost use Rattle.rh_figure.specs.Map.{map_start};
 ghost use Rattle.rh_lines.specs.Flow.{unread};
 ghost use Rattle.rh_pictures.specs.Painted.{Painted, PaintedUntil};

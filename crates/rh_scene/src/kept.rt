@@ -79,7 +79,7 @@ impl Kept {
         requires { messages.now ≡ message_items (S.desk sight.now) }
         ensures { result ≡ before_of (S.desk sight.now) (option_map (λ c. c.now) command.entry) }
     {
-        sight.spelled();
+        sight.recall_desk();
         let mut kept = Kept {
             handle: Handle(0),
             blocks: ArrayVec::new(),
@@ -103,7 +103,7 @@ impl Kept {
         ensures { (t : Task) → slice_get (S.desk sight.now).tasks i ≡ Some t → self.new
             ≡ before_task (S.desk sight.now) (Some t) }
     {
-        sight.spelled();
+        sight.recall_desk();
         if let Some(task) = sight.task(i) {
             self.handle = task.handle;
             self.held = held_ref(messages, task.handle);
@@ -200,7 +200,7 @@ fn push_holdings<S: Sight>(sight: &S, list: &mut ArrayVec<Holding, MAX_AREAS>)
     requires { list.old.items ≡ [] }
     ensures { holdings_of list.new.items ≡ holdings (S.desk sight.now) }
 {
-    sight.spelled();
+    sight.recall_desk();
     for number in 0..FIXED_AREAS as u32 {
         list.push(Holding {
             owner: Owner::Area(number),

@@ -18,7 +18,7 @@ pub fn free_of<'a, S: Sight>(sight: &S, pages: &'a [u16]) -> &'a [u16]
     requires { IsShared (share_in pages.now (S.desk sight.now)) (S.desk sight.now) }
     ensures { result.now ≡ (share_in pages.now (S.desk sight.now)).free }
 {
-    sight.spelled();
+    sight.recall_desk();
     &pages[..sight.free_pages() as usize]
 }
 
@@ -29,7 +29,7 @@ pub fn pages_of<'a, S: Sight>(sight: &S, pages: &'a [u16], owner: PagesOf) -> &'
     ensures { IfSome (owner_seen owner (S.desk sight.now)) (λ o. result.now ≡
         (share_in pages.now (S.desk sight.now)).pages_of o) }
 {
-    sight.spelled();
+    sight.recall_desk();
     let first = first_page(sight, owner);
     &pages[first..][..page_count(sight, owner)]
 }
@@ -39,7 +39,7 @@ fn page_count<S: Sight>(sight: &S, owner: PagesOf) -> usize
     requires { IsSome (owner_seen owner (S.desk sight.now)) }
     ensures { IfSome (owner_seen owner (S.desk sight.now)) (λ o. result ≡ count_of o (holdings (S.desk sight.now))) }
 {
-    sight.spelled();
+    sight.recall_desk();
     let count = match owner {
         PagesOf::Fixed(number) => sight.fixed_pages(number),
         PagesOf::Made(i) => match sight.made(i) {
@@ -59,7 +59,7 @@ fn first_page<S: Sight>(sight: &S, owner: PagesOf) -> usize
     requires { IsSome (owner_seen owner (S.desk sight.now)) }
     ensures { result ≡ free_pages_on (S.desk sight.now) + pages_before owner (S.desk sight.now) }
 {
-    sight.spelled();
+    sight.recall_desk();
     let free = sight.free_pages() as usize;
     let fixed = FIXED_AREAS as u32;
     match owner {
@@ -79,7 +79,7 @@ fn fixed_before<S: Sight>(sight: &S, number: u32) -> usize
     ensures { result ≡ total (λ (h : Holding). h.1) (take number
         (map (fixed_holding (S.desk sight.now)) (enumerate_from 0 (S.desk sight.now).areas))) }
 {
-    sight.spelled();
+    sight.recall_desk();
     let mut count = 0;
     for below in 0..number {
         count += sight.fixed_pages(below) as usize;
@@ -91,7 +91,7 @@ fn fixed_before<S: Sight>(sight: &S, number: u32) -> usize
 fn made_before<S: Sight>(sight: &S, most: usize) -> usize
     ensures { result ≡ total (λ (m : Made). m.pages) (take most (S.desk sight.now).made) }
 {
-    sight.spelled();
+    sight.recall_desk();
     let mut count = 0;
     for i in 0..most {
         if let Some(area) = sight.made(i) {
@@ -105,7 +105,7 @@ fn made_before<S: Sight>(sight: &S, most: usize) -> usize
 fn slots_before<S: Sight>(sight: &S, most: usize) -> usize
     ensures { result ≡ total task_pages (take most (S.desk sight.now).tasks) }
 {
-    sight.spelled();
+    sight.recall_desk();
     let mut count = 0;
     for i in 0..most {
         if let Some(task) = sight.task(i) {

@@ -59,7 +59,7 @@ pub fn slot_pieces<S: Sight>(
     ensures { (t : Task) → slice_get (S.desk sight.now).tasks i ≡ Some t →
         pieces.new.items ≡ slot_pieces_of (scene_at (S.desk sight.now) step.now) t.handle t.slot }
 {
-    sight.spelled();
+    sight.recall_desk();
     pieces.clear();
     pieces.push(plain(Kind::AnchorWords, 0, C_HEAP_PLACE));
     let drawn = DrawnHeap {
@@ -143,7 +143,7 @@ fn push_heap<S: Sight>(sight: &S, step: &Step<'_>, drawn: &DrawnHeap, pieces: &m
         ++ heap_pieces (legend_of (scene_at (S.desk sight.now) step.now) drawn.now.heap drawn.now.handle)
         (heap_start_of drawn.now.heap - area_start_of drawn.now.heap) h) }
 {
-    sight.spelled();
+    sight.recall_desk();
     let at = (heap_address(drawn.heap) - area_address(drawn.heap)) as usize;
     pieces.push(plain(Kind::Descriptor, at, HEAP_FIRST));
     let place = push_segments(sight, step, drawn, pieces);
@@ -175,7 +175,7 @@ fn push_segments<S: Sight>(
     ensures place { IfSome (heap_seen drawn.now.heap (S.desk sight.now))
         (λ h. result ≡ place_after (take MOST_SEGMENTS h.segments)) }
 {
-    sight.spelled();
+    sight.recall_desk();
     let mut place = HEAP_FIRST as u32;
     for _turn in 0..MOST_SEGMENTS / SEGMENTS_AT_ONCE {
         let items = sight.segments(drawn.heap, place);

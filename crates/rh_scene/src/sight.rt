@@ -84,8 +84,8 @@ pub trait Sight {
     // The desk that is seen.
     ghost desk: { Self → Desk };
 
-    /// The desk is one of a run.
-    fn spelled(&self)
+    /// Runs nothing: recalls for a proof that the desk is one of a run.
+    fn recall_desk(&self)
         ensures { IsDesk (desk self.now) };
 
     /// The task at a place in order of handle, with at most so many records each way as may be; None past the last.

@@ -45,7 +45,7 @@ pub fn take_census<S: Sight>(sight: &S, heap: HeapOf, place: u32) -> Census
     ensures { (rest : List Segment) → ComesToRest (heap_seen heap (S.desk sight.now)) place rest → result
         ≡ census_of place rest }
 {
-    sight.spelled();
+    sight.recall_desk();
     let mut end = place;
     let mut count = 0;
     let mut items = sight.segments(heap, end);

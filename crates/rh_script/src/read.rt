@@ -25,7 +25,7 @@ pub fn segments_of<S: Store, F: NamedFiles>(
     ensures heap { IsHeap (heap_of_named name.now world.now.desk) }
     ensures short { (heap_of_named name.now world.now.desk).end < 2 ^ 23 }
 {
-    world.spelled();
+    world.recall_spelling();
     match world.segments_of(name, place) {
         Ok(items) => items,
         Err(_) => ArrayVec::new(),
@@ -44,7 +44,7 @@ pub fn size_of_block<S: Store, F: NamedFiles>(
     ensures anchor { IfOk result (λ size. anchor < anchor_count) }
     ensures refused { IfErr result (λ refusal. show world.now.desk name.now anchor ≡ Err refusal) }
 {
-    world.spelled();
+    world.recall_spelling();
     if !anchor.is_valid() {
         return match world.status(name) {
             Ok(_) => Err(Refusal::NoBlock),

@@ -15,11 +15,11 @@ use Rattle.rh_defs.specs.Text.{fault_text}
 use Rattle.rh_defs.specs.declared.fault.LineFault.TheVariants.{TooLong}
 use Rattle.rh_lines.specs.Flow.{Input, Output, Breaks, Takes}
 use Rattle.rh_lines.proofs.FlowLemmas.{breaks_before}
-use Rattle.rh_feed.specs.declared.fault.FeedFault.{FeedFault}
-use Rattle.rh_feed.specs.declared.fault.FeedFault.TheVariants as feed
-use Rattle.rh_feed.specs.Lines.{kept}
-use Rattle.rh_feed.specs.Taken.{Fed, FedAll, FedUntil, TookAll, TookFront, TookScript}
-use Rattle.rh_feed.proofs.LineLemmas.{ended-append, is_above, kept_means, split_at, still_long}
+use Rattle.rh_session.specs.declared.fault.FeedFault.{FeedFault}
+use Rattle.rh_session.specs.declared.fault.FeedFault.TheVariants as feed
+use Rattle.rh_session.specs.Lines.{kept}
+use Rattle.rh_session.specs.Taken.{Fed, FedAll, FedUntil, TookAll, TookFront, TookScript}
+use Rattle.rh_session.proofs.LineLemmas.{ended-append, is_above, kept_means, split_at, still_long}
 use Rattle.rh_session.specs.Answers.{AnsweredLine, AnsweredMeaning, AnsweredRest}
 use Rattle.rh_session.specs.Outcome.{Answered, BrokeOff, Finished, run_fault_of, status_of}
 use Rattle.rh_session.specs.declared.session.Session.{Session}

@@ -4,8 +4,8 @@ use Rattle.rh_defs.specs.Desk.{Desk}
 use Rattle.std.specs.Io.KnownBytes.{Consumes, IsAtEnd}
 use Rattle.rh_lines.specs.Flow.{Input, Output, Takes, Breaks}
 use Rattle.rh_defs.specs.Script.{ended_text, script_text, has_bad_line}
-use Rattle.rh_feed.specs.declared.fault.FeedFault.{FeedFault}
-use Rattle.rh_feed.specs.declared.fault.FeedFault.TheVariants as feed
+use Rattle.rh_session.specs.declared.fault.FeedFault.{FeedFault}
+use Rattle.rh_session.specs.declared.fault.FeedFault.TheVariants as feed
 use Rattle.rh_session.specs.declared.status.RunFault.{RunFault}
 use Rattle.rh_session.specs.declared.status.RunFault.TheVariants as run
 use Rattle.rh_session.specs.declared.status.Status.{Status}

@@ -6,7 +6,7 @@ ghost use Rattle.rh_defs.specs.Questions.{asked};
 ghost use Rattle.rh_defs.specs.Range.{in_range};
 ghost use Rattle.rh_defs.specs.Commands.{step};
 ghost use Rattle.rh_defs.specs.Text.{answer_text};
-ghost use Rattle.rh_feed.specs.Taken.{Gives};
+ghost use Rattle.rh_session.specs.Taken.{Gives};
 
 use rh_defs::{Command, Question, Reply};
 use rh_lines::Pen;

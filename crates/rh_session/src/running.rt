@@ -7,9 +7,9 @@ ghost use Rattle.rh_lines.specs.Flow.{unread};
 ghost use Rattle.rh_session.specs.Outcome.{Answered, Finished, BrokeOff};
 
 use crate::desktop::Desktop;
+use crate::feeding::{feed_all, feed_whole};
 use crate::session::Session;
 use crate::status::{RunFault, Status, run_fault};
-use rh_feed::{feed_all, feed_whole};
 use rh_lines::{Sink, Source, WriteFailed};
 
 /// So many bytes are read at a time.

@@ -4,14 +4,14 @@ ghost use Rattle.std.specs.Prelude.{◌≡◌, ◌<◌, Ok, Some, IsTrue, false,
 ghost use Rattle.rh_defs.specs.Range.{in_range};
 ghost use Rattle.rh_defs.specs.Script.{rest_text};
 ghost use Rattle.rh_defs.specs.Text.{fault_text};
-ghost use Rattle.rh_feed.specs.Taken.{Gives};
+ghost use Rattle.rh_session.specs.Taken.{Gives};
 ghost use Rattle.rh_session.specs.Outcome.{status_of};
 
 use crate::desktop::Desktop;
 use crate::status::Status;
+use crate::taker::LineTaker;
 use rh_defs::sizes::LONGEST_LINE;
 use rh_defs::{Command, LineFault, Question};
-use rh_feed::LineTaker;
 use rh_lines::{Pen, put_fault, put_first_line, read_line};
 
 /// A script in the middle of its run: the desktop, the place of each line's command, and whether a line was bad.

@@ -3,7 +3,7 @@
 ghost use Rattle.std.specs.Prelude.{◌≡◌};
 ghost use Rattle.rh_session.specs.Outcome.{run_fault_of};
 
-use rh_feed::FeedFault;
+use crate::fault::FeedFault;
 use thiserror::Error;
 
 /// How a run that came to the end of its script went.

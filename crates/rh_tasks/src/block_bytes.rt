@@ -90,7 +90,7 @@ impl<S: Store, F: NamedFiles> World<S, F> {
         ensures is { result ≡ anchor_at_on self.now.desk name.now address }
         ensures low { IfOk result (λ found. IfSome found (λ anchor. anchor < anchor_count)) }
     {
-        self.spelled();
+        self.recall_spelling();
         let mut items = ArrayVec::new();
         self.blocks_of(name, &mut items)?;
         Ok(anchor_in(&items, address))

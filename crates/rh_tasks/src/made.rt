@@ -7,7 +7,7 @@ ghost use Rattle.rh_tasks.specs.View.{has_number};
 use rh_defs::Refusal;
 use rh_defs::sizes::MADE_AREAS;
 use rh_store::AreaId;
-use rh_tables::Table;
+use rh_wimp::Table;
 
 /// The made areas in order of number.
 pub type MadeAreas = Table<MadeArea, MADE_AREAS>;

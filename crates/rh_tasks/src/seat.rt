@@ -10,7 +10,7 @@ use rh_defs::{Anchor, Handle, Letter, Manner, Name, Ref};
 use rh_ram::{Receiver, Sender};
 use rh_slot::Slot;
 use rh_store::AreaId;
-use rh_tables::Table;
+use rh_wimp::Table;
 
 /// The live tasks in order of handle.
 pub type Seats = Table<Seat, MAX_TASKS>;

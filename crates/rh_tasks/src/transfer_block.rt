@@ -32,7 +32,7 @@ impl<S: Store, F: NamedFiles> World<S, F> {
         ensures desk { IsDesk self.new.desk }
     {
         let moved = self.move_block(from, address, to, address2, n);
-        self.spelled();
+        self.recall_spelling();
         moved
     }
 

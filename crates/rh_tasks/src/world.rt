@@ -23,8 +23,7 @@ use rh_defs::sizes::FIXED_AREAS;
 use rh_defs::{Command, Files, Handle, Numbers, Ref, Refusal, Reply};
 use rh_module::Module;
 use rh_store::Store;
-use rh_tables::Table;
-use rh_wimp::Queue;
+use rh_wimp::{Queue, Table};
 use std::marker::Model;
 
 /// A desk over a store, whose areas hold the slots, the module area and the pages. Areas 0 to 5 are the store's areas
@@ -101,9 +100,9 @@ impl<S: Store, F: NamedFiles> World<S, F> {
         }
     }
 
-    /// The bytes and lengths of the store's areas spell the desk; the live blocks lie in them, no two of one area
-    /// overlap, and all pages add up.
-    pub fn spelled(&self)
+    /// Runs nothing: recalls for a proof what always holds. The bytes and lengths of the store's areas spell the desk,
+    /// the live blocks lie in them, no two of one area overlap, and all pages add up.
+    pub fn recall_spelling(&self)
         ensures spelled { IsSpelled self.now }
         ensures apart { ShowsApartBlocks self.now }
         ensures balanced { ShowsBalance self.now }
@@ -127,7 +126,7 @@ impl<S: Store, F: NamedFiles> World<S, F> {
         ensures desk { IsDesk self.new.desk }
     {
         let reply = self.change(command);
-        self.spelled();
+        self.recall_spelling();
         reply
     }
 

@@ -5,3 +5,4 @@ pub mod PostIn
 pub mod QueueCalls
 pub mod QueueItems
 pub mod QueueLaws
+pub mod TableLends

@@ -9,11 +9,11 @@ ghost use Rattle.rh_wimp.specs.Chains.{entry_at, lengthened, shortened};
 ghost use Rattle.rh_defs.specs.declared.sizes.TheConstants.{WORD};
 
 use crate::layout::LINK;
+use crate::table::Table;
 use rh_defs::Handle;
 use rh_defs::sizes::MAX_TASKS;
 use rh_module::Module;
 use rh_store::WordsMut;
-use rh_tables::Table;
 
 /// A live handle, with the offsets in the module area of the first and last block of its chain and of the block that it
 /// holds, 0 for none.

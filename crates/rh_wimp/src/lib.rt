@@ -1,4 +1,5 @@
-//! The Wimp's messages: their bytes, and the queue that keeps them in blocks of the module area.
+//! The Wimp's messages: their bytes, and the queue that keeps them in blocks of the module area. What has a place for
+//! each task, as the queue, is a `Table`: a row of fixed length, which takes no memory.
 #![tactic(auto)]
 
 mod bytes;
@@ -16,8 +17,10 @@ mod queue;
 mod reading;
 mod searching;
 mod sending;
+mod table;
 
 pub use decoding::decode;
 pub use encoding::encode;
 pub use laws::{beside_law, codec_law, post_law};
 pub use queue::Queue;
+pub use table::Table;

@@ -12,12 +12,12 @@ use crate::chain::Entry;
 use crate::layout::{ACTION, LINK, MESSAGE, MY_REF, SENDER};
 use crate::queue::Queue;
 use crate::reading::code_in;
+use crate::table::Table;
 use arrayvec::ArrayVec;
 use rh_defs::sizes::{MAX_TASKS, MOST_MESSAGES};
 use rh_defs::{Action, Handle, MessageItem, Ref};
 use rh_module::Module;
 use rh_store::Words;
-use rh_tables::Table;
 
 impl Queue {
     /// Puts all live messages into a list, in place of what it held: those that wait, task by task in the order in

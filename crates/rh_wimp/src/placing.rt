@@ -19,11 +19,11 @@ use crate::bytes::put_word;
 use crate::chain::Entry;
 use crate::encoding::encode_into;
 use crate::layout::{CODE, LINK, MESSAGE, MOST_PARCEL, MY_REF};
+use crate::table::Table;
 use rh_defs::sizes::MAX_TASKS;
 use rh_defs::{EventCode, Message, Ref, Refusal};
 use rh_module::Module;
 use rh_store::{Pages, Words};
-use rh_tables::Table;
 
 /// Claims a block and writes a message into it, with link 0. Refused (`NoRoom`), and nothing changed, where the module
 /// area can't grow.

@@ -10,9 +10,9 @@ ghost use Rattle.rh_wimp.specs.QueueCalls.{IsQueue, handles_of};
 ghost use Rattle.rh_wimp.specs.Chains.{HasEntry, ArePostChains, joined_chains};
 
 use crate::chain::Entry;
+use crate::table::Table;
 use rh_defs::sizes::MAX_TASKS;
 use rh_defs::{Handle, Ref};
-use rh_tables::Table;
 use std::marker::Model;
 
 /// For each live task a chain of messages in blocks of the module area, and the message that it holds.

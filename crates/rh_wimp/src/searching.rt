@@ -12,11 +12,11 @@ ghost use Rattle.rh_wimp.specs.Inner.Searches.{AreShortChains, rows_have, wants}
 use crate::chain::Entry;
 use crate::layout::{LINK, MESSAGE, MY_REF};
 use crate::queue::Queue;
+use crate::table::Table;
 use rh_defs::Ref;
 use rh_defs::sizes::{MAX_TASKS, MOST_MESSAGES};
 use rh_module::Module;
 use rh_store::Words;
-use rh_tables::Table;
 
 /// What is looked for among the live messages.
 #[derive(Debug, Drop)]

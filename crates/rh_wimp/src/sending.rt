@@ -14,11 +14,11 @@ use crate::encoding::body_length;
 use crate::layout::{ACTION, MESSAGE};
 use crate::placing::{holds_ref, place, put_down};
 use crate::queue::Queue;
+use crate::table::Table;
 use rh_defs::sizes::{MAX_TASKS, MOST_MESSAGES};
 use rh_defs::{Handle, Letter, Message, Ref, Refusal};
 use rh_module::Module;
 use rh_store::{Pages, Words};
-use rh_tables::Table;
 
 impl Queue {
     /// The pages that a send would take. Refused as the send is, but for `NoRoom`.

@@ -9,13 +9,13 @@ ghost use Rattle.rh_store.specs.Plain as plain;
 
 use rh_defs::sizes::PAGE;
 use rh_defs::{Files, Name};
-use rh_feed::LONGEST_SCRIPT;
 use rh_lines::{Flagged, Sink, WholeText, WriteFailed};
 use rh_pages::{LISTS, LentBacking, PagedStore};
 use rh_run::{
     RunFault, Status, draw_map, draw_sheet, map_of, map_over, replies_of, run, run_over, sheet_of,
     sheet_over,
 };
+use rh_session::LONGEST_SCRIPT;
 use rh_store::PlainStore;
 use std::alloc::{AllocError, Global};
 

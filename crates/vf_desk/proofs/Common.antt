@@ -31,8 +31,8 @@ pub use Rattle.std.specs.Prelude.{IsSome, MatchResult, OnOk, Option, Result, fin
 pub use Rattle.std.specs.Prelude.{◌≢◌, ◌⊎◌}
 pub use Rattle.std.specs.contracts.impls.GlobalAllocator.TheImpl.{ghosts}
 pub use Rattle.core.proofs.alloc.Calls.{Goes-blank, handle_tells}
-pub use Rattle.rh_console.specs.Console.{filled_front}
-pub use Rattle.rh_console.specs.declared.console.Console.{Console}
+pub use Rattle.vf_desk.specs.Console.{filled_front}
+pub use Rattle.vf_desk.specs.declared.console.Console.{Console}
 unfoldable pub use Rattle.rh_defs.specs.Chain.{◌>>=◌}
 pub use Rattle.rh_defs.specs.Desk.{Desk, Task}
 unfoldable pub use Rattle.rh_defs.specs.Desk.{named}

@@ -1,3 +1,6 @@
+mod FreshLaws
+mod PrintLaws
+mod SaidLaws
 pub mod Pairs
 pub mod SeenLaws
 pub mod CallLaws

@@ -1,8 +1,8 @@
 -- Lines on a desk that is open, and on one that isn't.
 use Rattle.vf_desk.proofs.Common.{◌≡◌, ℕ, Bool, true, false, List, length, Option, Some, None, refl, sym, ap, subst, ◌∙◌, nat_le, if◌then◌else◌, Console}
 use Rattle.vf_desk.proofs.Common.{Desk, OpenDesk, TakesLine, SeenBy, console_in, closed_status}
-use Rattle.rh_console.specs.Console.{Prints}
-use Rattle.rh_console.specs.Said.{said_text}
+use Rattle.vf_desk.specs.Console.{Prints}
+use Rattle.vf_desk.specs.Said.{said_text}
 use Rattle.rh_defs.specs.Order.{IsReordered}
 use Rattle.rh_defs.specs.Script.{line_desk, line_text}
 use Rattle.vf_desk.specs.DeskLines.{Fills, Replies, desk_after, kept_text, line_status}

@@ -1,8 +1,8 @@
 -- Lines, and the texts of their replies in lent bytes.
 use Rattle.std.specs.Prelude.{◌≡◌, ◌≢◌, ℕ, nat_le, if◌then◌else◌, List, [], length, Option, Some, None}
-use Rattle.rh_console.specs.Console.{with_text}
-use Rattle.rh_console.specs.Said.{said_text}
-use Rattle.rh_console.specs.declared.console.Console.{Console}
+use Rattle.vf_desk.specs.Console.{with_text}
+use Rattle.vf_desk.specs.Said.{said_text}
+use Rattle.vf_desk.specs.declared.console.Console.{Console}
 use Rattle.rh_defs.specs.Desk.{Desk}
 use Rattle.rh_defs.specs.Script.{line_desk, line_text}
 use Rattle.vf_desk.specs.declared.open_desk.OpenDesk.{OpenDesk}

@@ -1,4 +1,5 @@
 pub mod CallOutcome
+pub mod Console
 pub mod DeskForms
 pub mod DeskItems
 pub mod DeskLines
@@ -8,4 +9,5 @@ pub mod HandleOwnership
 pub mod Inner
 pub mod Next
 pub mod Opening
+pub mod Said
 pub mod SeenDesk

@@ -4,8 +4,8 @@ use Rattle.rh_defs.specs.Files.{FileList, has_file}
 use Rattle.rh_defs.specs.Forms.{is_name}
 use Rattle.rh_defs.specs.Runs.{start_with}
 use Rattle.rh_defs.specs.declared.sizes.TheConstants.{MAX_PAGES, MIN_PAGES, LONGEST_FILE}
-use Rattle.rh_console.specs.declared.console.Console.{Console}
-use Rattle.rh_console.specs.declared.said.Said.TheVariants as said
+use Rattle.vf_desk.specs.declared.console.Console.{Console}
+use Rattle.vf_desk.specs.declared.said.Said.TheVariants as said
 use Rattle.vf_desk.specs.declared.open_desk.OpenDesk.{OpenDesk}
 use Rattle.vf_desk.specs.SeenDesk.{console_in, files_in}
 use Rattle.vf_desk.specs.DeskStatus.{already_open, bad_argument, bad_length, file_exists, no_memory}

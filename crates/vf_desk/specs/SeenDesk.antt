@@ -3,8 +3,8 @@ use Rattle.std.specs.Prelude.{◌≡◌, [], Option, Some, None}
 use Rattle.rh_defs.specs.Files.{FileList}
 use Rattle.rh_defs.specs.Desk.{Desk}
 use Rattle.rh_defs.specs.Order.{IsReordered}
-use Rattle.rh_console.specs.declared.console.Console.{Console}
-use Rattle.rh_console.specs.declared.said.Said.{Said}
+use Rattle.vf_desk.specs.declared.console.Console.{Console}
+use Rattle.vf_desk.specs.declared.said.Said.{Said}
 use Rattle.vf_desk.specs.declared.desk.VfDesk.{VfDesk}
 use Rattle.vf_desk.specs.declared.open_desk.OpenDesk.{OpenDesk}
 

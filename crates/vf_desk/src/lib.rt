@@ -2,11 +2,13 @@
 //!
 //! A desk is held by the address of a box (`handle`); all else is safe code. Each call with a command makes the command
 //! of its arguments (`forms`), does it (`open desk`), and takes the words and numbers of the reply apart (`called`).
+//! A `Console` takes lines, and `said` prints the text of a reply into the caller's bytes.
 #![tactic(auto)]
 
 mod areas;
 mod c_heap;
 mod call_outcome;
+mod console;
 mod desk;
 mod event;
 mod flex;
@@ -20,5 +22,6 @@ mod next;
 mod open_desk;
 mod opening;
 mod questions;
+mod said;
 mod status;
 mod tasks;

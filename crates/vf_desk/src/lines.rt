@@ -2,13 +2,13 @@
 ghost use Rattle.std.specs.Prelude.{◌≡◌, Some};
 ghost use Rattle.rh_defs.specs.Desk.{Desk};
 ghost use Rattle.rh_defs.specs.Order.{IsReordered};
-ghost use Rattle.rh_console.specs.Said.{said_text};
+ghost use Rattle.vf_desk.specs.Said.{said_text};
 ghost use Rattle.vf_desk.specs.DeskLines.{Fills, Replies, TakesLine};
 
+use crate::console::Console;
 use crate::desk::VfDesk;
 use crate::open_desk::OpenDesk;
 use crate::status::{CLOSED, OK, SHORT};
-use rh_console::Console;
 use std::alloc::Global;
 
 /// Takes a line without its line feed, and keeps its reply.

@@ -1,6 +1,6 @@
 //! The lists of a desk that may be closed: none where it is, or where a name or an anchor isn't of its form.
 ghost use Rattle.std.specs.Prelude.{◌≡◌, Option, length, map};
-ghost use Rattle.rh_console.specs.Console.{filled_front};
+ghost use Rattle.vf_desk.specs.Console.{filled_front};
 ghost use Rattle.rh_defs.specs.Desk.{Desk};
 ghost use Rattle.rh_defs.specs.declared.question.Question.TheVariants as Question;
 ghost use Rattle.vf_desk.specs.DeskItems.{as_area, areas_listed, as_block, blocks_listed, bytes_listed, incoming_in};

@@ -1,6 +1,6 @@
 //! Lists that a question is answered with, put into slices: as many items as there is room for.
 ghost use Rattle.std.specs.Prelude.{◌≡◌, ◌+◌, ◌≤◌, ◌<◌, ◌^◌, ◌∷◌, [], length, map};
-ghost use Rattle.rh_console.specs.Console.{filled_front};
+ghost use Rattle.vf_desk.specs.Console.{filled_front};
 ghost use Rattle.rh_defs.specs.Slot.{anchor_count};
 ghost use Rattle.rh_defs.specs.Questions.{area_items, blocks as blocks_on, heap as heap_on, show as show_on};
 ghost use Rattle.rh_defs.specs.Questions.{status as status_on};
@@ -13,9 +13,9 @@ ghost use Rattle.vf_desk.specs.DeskItems.{as_area, as_block, blocks_listed, byte
 ghost use Rattle.vf_desk.specs.DeskItems.{outgoing_in, record_of, as_segment, segments_listed};
 ghost use Rattle.vf_desk.specs.Inner.DeskLists.{filled_from};
 
+use crate::console::PagedWorld;
 use crate::items::{Listed, VfArea, VfBlock, VfRecord, VfSegment, listed_area};
 use arrayvec::ArrayVec;
-use rh_console::PagedWorld;
 use rh_defs::sizes::{C_HEAP_START, HEAP_FIRST, SEGMENTS_AT_ONCE};
 use rh_defs::{Anchor, Name, SegmentItem};
 
@@ -68,7 +68,7 @@ fn segments_from(
     ensures heap { IsHeap (heap_of_named name.now world.now.desk) }
     ensures short { (heap_of_named name.now world.now.desk).end < 2 ^ 23 }
 {
-    world.spelled();
+    world.recall_spelling();
     match world.segments_of(name, place) {
         Ok(items) => items,
         Err(_) => ArrayVec::new(),

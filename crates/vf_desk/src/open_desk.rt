@@ -9,8 +9,8 @@ ghost use Rattle.vf_desk.specs.Inner.DeskSteps.{Steps};
 ghost use Rattle.vf_desk.specs.SeenDesk.{KeepsRest, SeenBy};
 
 use crate::call_outcome::CallOutcome;
+use crate::console::{Console, PagedWorld};
 use crate::forms::{anchor_of, name_of};
-use rh_console::{Console, PagedWorld};
 use rh_defs::sizes::GREATEST_NUMBER;
 use rh_defs::{Command, Files, Reply};
 

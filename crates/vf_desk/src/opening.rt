@@ -5,11 +5,11 @@ ghost use Rattle.vf_desk.specs.Opening.{Adds, Opens, opening_status};
 ghost use Rattle.rh_defs.specs.declared.sizes.TheConstants.{LONGEST_FILE};
 ghost use Rattle.vf_desk.specs.DeskStatus.{no_memory};
 
+use crate::console::Console;
 use crate::desk::VfDesk;
 use crate::forms::name_of;
 use crate::open_desk::OpenDesk;
 use crate::status::{BAD_ARGUMENT, BAD_LENGTH, FILE_EXISTS, NO_MEMORY, OK, OPEN};
-use rh_console::Console;
 use rh_defs::sizes::{LONGEST_FILE, MAX_PAGES, MIN_PAGES};
 use rh_defs::{Files, Handle, Name, Ref};
 use std::alloc::{AllocError, Global};

@@ -1,6 +1,6 @@
 //! The questions: they leave the desk as it is, and list what they are asked for.
 ghost use Rattle.std.specs.Prelude.{◌≡◌, Option, length, map};
-ghost use Rattle.rh_console.specs.Console.{filled_front};
+ghost use Rattle.vf_desk.specs.Console.{filled_front};
 ghost use Rattle.rh_defs.specs.Desk.{Desk};
 ghost use Rattle.rh_defs.specs.declared.command.Command.TheVariants as Command;
 ghost use Rattle.rh_defs.specs.declared.question.Question.TheVariants as Question;

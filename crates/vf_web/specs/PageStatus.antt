@@ -1,7 +1,7 @@
 -- Statuses: how a call ended, as a number.
 use Rattle.std.specs.Prelude.{ℕ, nat_lt, Bool, if◌then◌else◌, List, length, Option, Some, None}
 use Rattle.rh_defs.specs.Files.{FileList}
-use Rattle.rh_feed.specs.declared.feeding.TheConstants.{LONGEST_SCRIPT}
+use Rattle.rh_session.specs.declared.feeding.TheConstants.{LONGEST_SCRIPT}
 use Rattle.rh_session.specs.declared.status.Status.{Status}
 use Rattle.rh_session.specs.declared.status.Status.TheVariants.{Clean, BadLines}
 use Rattle.vf_web.specs.Packed.{files_in}

@@ -1,7 +1,7 @@
 //! What a caller lends, looked at before a script is run.
 
 ghost use Rattle.std.specs.Prelude.{◌≡◌, ◌≢◌, ◌≤◌, IfErr, IfOk, IsTrue};
-ghost use Rattle.rh_feed.specs.declared.feeding.TheConstants.{LONGEST_SCRIPT};
+ghost use Rattle.rh_session.specs.declared.feeding.TheConstants.{LONGEST_SCRIPT};
 ghost use Rattle.vf_web.specs.Packed.{files_of};
 ghost use Rattle.vf_web.specs.Room.{has_room_for};
 ghost use Rattle.vf_web.specs.PageStatus.{lent_status};
@@ -9,7 +9,7 @@ ghost use Rattle.vf_web.specs.PageStatus.{lent_status};
 use crate::files::LentFiles;
 use crate::memory::has_room;
 use crate::status::{BAD_FILES, BAD_PAGES, LONG_SCRIPT};
-use rh_feed::LONGEST_SCRIPT;
+use rh_session::LONGEST_SCRIPT;
 
 /// The files for a script of so many bytes, which is to run over so many pages in so much memory; or the status of a
 /// call that can't run it.

@@ -5,7 +5,7 @@ ghost use Rattle.rh_defs.specs.Memory.{fresh};
 ghost use Rattle.rh_defs.specs.Runs.{start};
 ghost use Rattle.rh_defs.specs.Script.{has_bad_line, script_text};
 ghost use Rattle.rh_defs.specs.declared.sizes.TheConstants.{MAX_PAGES, MIN_PAGES};
-ghost use Rattle.rh_feed.specs.declared.feeding.TheConstants.{LONGEST_SCRIPT};
+ghost use Rattle.rh_session.specs.declared.feeding.TheConstants.{LONGEST_SCRIPT};
 ghost use Rattle.rh_figure.specs.Map.{map_start};
 ghost use Rattle.vf_web.specs.PageCalls.{MapTold, SheetTold, ToldText};
 ghost use Rattle.vf_web.specs.PageStatus.{status_number};

@@ -15,5 +15,5 @@ pub const BAD_FILES: u32 = 3;
 /// The text is longer than the bytes that it was to be written to.
 pub const SHORT_TEXT: u32 = 4;
 
-/// The script has more than `rh_feed::LONGEST_SCRIPT` bytes.
+/// The script has more than `rh_session::LONGEST_SCRIPT` bytes.
 pub const LONG_SCRIPT: u32 = 5;

@@ -2,7 +2,7 @@
 
 use crate::answer::{shown, tell};
 use crate::row::Row;
-use rh_tables::Table;
+use rh_wimp::Table;
 use std::alloc::Global;
 use std::io;
 

@@ -43,8 +43,8 @@ fn call<S: Store, F: NamedFiles>(
         "transfer" => transfer(alloc, world, row),
         "answer" => replies::answer(alloc, world, row.rest()?),
         "print" => replies::print(alloc, world, row),
-        "spelled" => {
-            world.spelled();
+        "recall_spelling" => {
+            world.recall_spelling();
             shown(alloc, ())
         }
         word => ask(alloc, world, word, row),

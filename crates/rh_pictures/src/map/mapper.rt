@@ -23,11 +23,10 @@ use crate::lists::Lists;
 use crate::map::steps::{Above, print_step};
 use arrayvec::ArrayVec;
 use rh_defs::{Command, LineFault, Question, Reply};
-use rh_feed::LineTaker;
 use rh_lines::{Pen, read_line};
 use rh_map::{Front, print_remark};
 use rh_scene::{Kept, Messages, PageList, is_still};
-use rh_session::Status;
+use rh_session::{LineTaker, Status};
 
 /// A map in the middle of its script: what is drawn, whether marked steps alone are shown, how many steps are behind
 /// it, whether a mark was seen since the last, whether a line was bad; and what a step is drawn with.
@@ -82,7 +81,7 @@ impl<D: Drawn> Mapper<D> {
         ensures told { Offers D.desk self.old line.now (Ok None) self.new (P.offered pen.old) (P.offered pen.new) }
         ensures same { self.new.steps ≡ self.old.steps }
     {
-        self.drawn.spelled();
+        self.drawn.recall_desk();
         self.wanted = is_wanted(self.wanted, line);
         if and_not(self.marked, self.wanted) {
             return;
@@ -101,7 +100,7 @@ impl<D: Drawn> Mapper<D> {
         let wanted = self.begin_step();
         if and_not(self.marked, wanted) {
             self.change(command);
-            self.drawn.spelled();
+            self.drawn.recall_desk();
             return;
         }
         self.drawn.messages(&mut self.messages);
@@ -127,7 +126,7 @@ impl<D: Drawn> Mapper<D> {
         self.has_bad_line = true;
         let wanted = self.begin_step();
         if and_not(self.marked, wanted) {
-            self.drawn.spelled();
+            self.drawn.recall_desk();
             return;
         }
         self.drawn.messages(&mut self.messages);

@@ -25,7 +25,7 @@ pub fn print_module_part<S: Sight, P: Pen>(
     ensures { P.offered pen.new ≡ P.offered pen.old
         ++ shown_lines (lines_of_module (scene_at (S.desk sight.now) step.now)) }
 {
-    sight.spelled();
+    sight.recall_desk();
     print_module_heading(sight.fixed_pages(MODULE_AREA), pen);
     module_pieces(sight, step, &mut lists.pieces);
     let area = AreaBytes {

@@ -24,7 +24,7 @@ pub fn print_pool_part<S: Sight, P: Pen>(sight: &S, step: &Step<'_>, lists: &mut
     requires { IsStepOf (S.desk sight.now) step.now }
     ensures { P.offered pen.new ≡ P.offered pen.old ++ shown_lines (pool_part (scene_at (S.desk sight.now) step.now)) }
 {
-    sight.spelled();
+    sight.recall_desk();
     let pool = step.pages.len();
     print_pool_heading(sight.free_pages(), pool as u32, pen);
     let marks = &mut lists.marks[..pool];
@@ -39,7 +39,7 @@ fn mark_pool<S: Sight>(sight: &S, step: &Step<'_>, marks: &mut [u8])
     ensures { let x = scene_at (S.desk sight.now) step.now in
         marks.new ≡ map (λ k. page_mark (slot_panels x) (owner_of x k)) (range_with_len 0 (S.desk sight.now).pool) }
 {
-    sight.spelled();
+    sight.recall_desk();
     clear(marks);
     for number in 0..FIXED_AREAS as u32 {
         let pages = pages_of(sight, step.pages, PagesOf::Fixed(number));
@@ -64,7 +64,7 @@ fn mark_made<S: Sight>(sight: &S, step: &Step<'_>, marks: &mut [u8])
     ensures { marks.new ≡ marked_all (map (made_pages (share_in step.now.pages.now (S.desk sight.now)))
         (S.desk sight.now).made) marks.old }
 {
-    sight.spelled();
+    sight.recall_desk();
     let mut i = 0;
     'areas: while let Some(area) = sight.made(i) {
         let pages = pages_of(sight, step.pages, PagesOf::Made(i));
@@ -79,7 +79,7 @@ fn mark_slots<S: Sight>(sight: &S, step: &Step<'_>, marks: &mut [u8])
     ensures { marks.new ≡ marked_all (slot_pages_from (share_in step.now.pages.now (S.desk sight.now)) 0
         (S.desk sight.now).tasks) marks.old }
 {
-    sight.spelled();
+    sight.recall_desk();
     let mut i = 0;
     'tasks: while let Some(_task) = sight.task(i) {
         let pages = pages_of(sight, step.pages, PagesOf::Slot(i));

@@ -4,15 +4,14 @@ ghost use Rattle.std.specs.Prelude.{◌≡◌, ◌≤◌, [], false, length, tru
 ghost use Rattle.rh_defs.specs.declared.sizes.TheConstants.{MOST_READS};
 ghost use Rattle.rh_defs.specs.Desk.{Desk};
 ghost use Rattle.rh_pictures.specs.Mapped.{Mapped, MappedSoFar, MappedUntil};
-ghost use Rattle.rh_feed.specs.declared.feeding.TheConstants.{LONGEST_SCRIPT};
+ghost use Rattle.rh_session.specs.declared.feeding.TheConstants.{LONGEST_SCRIPT};
 ghost use Rattle.rh_figure.specs.Map.{place};
 ghost use Rattle.rh_lines.specs.Flow.{unread};
 
 use crate::drawn::Drawn;
 use crate::map::mapper::Mapper;
-use rh_feed::{PIECE, feed_all, feed_whole};
 use rh_lines::{Sink, Source, WriteFailed};
-use rh_session::{RunFault, Status, run_fault};
+use rh_session::{PIECE, RunFault, Status, feed_all, feed_whole, run_fault};
 
 /// Runs a script over what can be drawn, and writes its map: each step, or marked steps alone, each before it reads
 /// on. It gives up after 1,000,000 reads that gave bytes.

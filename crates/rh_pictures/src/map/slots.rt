@@ -28,7 +28,7 @@ pub fn print_slot_part<S: Sight, P: Pen>(sight: &S, step: &Step<'_>, lists: &mut
     ensures { P.offered pen.new ≡ P.offered pen.old
         ++ shown_lines (lines_of_slots (scene_at (S.desk sight.now) step.now)) }
 {
-    sight.spelled();
+    sight.recall_desk();
     let tasks = count_tasks(sight);
     let mut i = 0;
     'tasks: while let Some(task) = sight.task(i) {
@@ -53,7 +53,7 @@ fn print_one<S: Sight, P: Pen>(
     ensures { (t : Task) → slice_get (S.desk sight.now).tasks i ≡ Some t → P.offered pen.new ≡ P.offered pen.old
         ++ shown_lines (slot_lines (scene_at (S.desk sight.now) step.now) t) }
 {
-    sight.spelled();
+    sight.recall_desk();
     print_heading(i, task, pen);
     if !is_drawn(step, tasks, task.handle) {
         return;
@@ -105,7 +105,7 @@ fn print_slot<S: Sight, P: Pen>(
     ensures { (t : Task) → slice_get (S.desk sight.now).tasks i ≡ Some t → P.offered pen.new ≡ P.offered pen.old
         ++ shown_lines (drawing_lines (Some (slot_drawing (scene_at (S.desk sight.now) step.now) t))) }
 {
-    sight.spelled();
+    sight.recall_desk();
     sight.blocks(i, &mut lists.blocks);
     slot_pieces(sight, step, i, task, &lists.blocks, &mut lists.pieces);
     let area = AreaBytes {

@@ -44,7 +44,7 @@ fn has_aside<S: Sight>(sight: &S, step: &Step<'_>, notes: &[Note]) -> bool
     requires { IsStepOf (S.desk sight.now) step.now }
     ensures { result ≡ has_aside_at (scene_at (S.desk sight.now) step.now) notes.now }
 {
-    sight.spelled();
+    sight.recall_desk();
     if !notes.is_empty() {
         return true;
     }

@@ -18,7 +18,7 @@ pub fn print_messages<S: Sight, P: Pen>(sight: &S, step: &Step<'_>, pen: &mut P)
     ensures { P.offered pen.new ≡ P.offered pen.old
         ++ messages_table (letterboxes (scene_at (S.desk sight.now) step.now)) }
 {
-    sight.spelled();
+    sight.recall_desk();
     if !has_letterboxes(sight, step.messages) {
         return;
     }

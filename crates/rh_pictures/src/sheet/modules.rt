@@ -39,7 +39,7 @@ pub fn print_module_part<S: Sight, P: Pen>(
     requires { IsStepOf (S.desk sight.now) step.now }
     ensures { P.offered pen.new ≡ P.offered pen.old ++ module_part (scene_at (S.desk sight.now) step.now) }
 {
-    sight.spelled();
+    sight.recall_desk();
     let mut note = Row::new();
     add_pages(&mut note, sight.fixed_pages(MODULE_AREA));
     print_area_heading(MODULE_AREA, &note, pen);
@@ -53,7 +53,7 @@ fn print_module_figure<S: Sight, P: Pen>(sight: &S, step: &Step<'_>, lists: &Lis
     requires pieces { lists.now.pieces.items ≡ module_pieces_of (scene_at (S.desk sight.now) step.now) }
     ensures { P.offered pen.new ≡ P.offered pen.old ++ module_figure (scene_at (S.desk sight.now) step.now) }
 {
-    sight.spelled();
+    sight.recall_desk();
     let pages = pages_of(sight, step.pages, PagesOf::Fixed(MODULE_AREA));
     let census = take_census(sight, HeapOf::Module, HEAP_FIRST as u32);
     let frame = Frame {
@@ -106,7 +106,7 @@ fn print_body<S: Sight, P: Pen>(
     requires census { census ≡ census_of first_place (S.desk sight.now).post.heap.segments }
     ensures { P.offered pen.new ≡ P.offered pen.old ++ module_body (scene_at (S.desk sight.now) step.now) }
 {
-    sight.spelled();
+    sight.recall_desk();
     let high = census.end as usize;
     print_lens_below(frame, HEAP_FIRST, high, census.count, pen);
     print_rows(frame, plot, pen);

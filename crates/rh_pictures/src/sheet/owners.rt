@@ -41,7 +41,7 @@ pub fn owner_at<S: Sight>(sight: &S, k: usize) -> Option<OwnerSight<'_>>
     ensures none { IfNone result (slice_get (holdings (S.desk sight.now)) k ≡ None) }
     ensures few { length (holdings (S.desk sight.now)) ≤ MAX_AREAS }
 {
-    sight.spelled();
+    sight.recall_desk();
     let made = count_made(sight);
     if k < FIXED_AREAS {
         Some(fixed_owner(sight, k))
@@ -57,7 +57,7 @@ fn fixed_owner<S: Sight>(sight: &S, k: usize) -> OwnerSight<'_>
     requires { k < FIXED_AREAS }
     ensures { IsOwnerSeen (S.desk sight.now) k result }
 {
-    sight.spelled();
+    sight.recall_desk();
     let number = k as u32;
     OwnerSight {
         named: Named::Area(number),
@@ -71,7 +71,7 @@ fn made_owner<S: Sight>(sight: &S, i: usize) -> Option<OwnerSight<'_>>
     ensures some { IfSome result (λ o. IsOwnerSeen (S.desk sight.now) (FIXED_AREAS + i) o) }
     ensures none { IfNone result (slice_get (S.desk sight.now).made i ≡ None) }
 {
-    sight.spelled();
+    sight.recall_desk();
     match sight.made(i) {
         Some(area) => Some(OwnerSight {
             named: Named::Area(area.number),
@@ -88,7 +88,7 @@ fn slot_owner<S: Sight>(sight: &S, i: usize) -> Option<OwnerSight<'_>>
         (FIXED_AREAS + length (S.desk sight.now).made + i) o) }
     ensures none { IfNone result (slice_get (S.desk sight.now).tasks i ≡ None) }
 {
-    sight.spelled();
+    sight.recall_desk();
     match sight.task(i) {
         Some(task) => Some(OwnerSight {
             named: Named::Slot(task.handle, task.name),

@@ -10,7 +10,7 @@ ghost use Rattle.rh_defs.specs.Range.{in_range};
 ghost use Rattle.rh_defs.specs.Commands.{step};
 ghost use Rattle.rh_defs.specs.declared.sizes.TheConstants.{MAX_PAGES};
 ghost use Rattle.rh_pictures.specs.DrawnReplies.{Excerpts};
-ghost use Rattle.rh_feed.specs.Lines.{kept};
+ghost use Rattle.rh_session.specs.Lines.{kept};
 ghost use Rattle.rh_map.specs.Replies.{front_of};
 ghost use Rattle.rh_figure.specs.Scene.{Before, Marks, is_still as is_still_of, scene_of};
 ghost use Rattle.rh_figure.specs.Share.{Share};
@@ -38,11 +38,10 @@ use crate::sheet::steps::{print_rest, print_step};
 use arrayvec::ArrayVec;
 use rh_defs::{Command, LineFault, Question, Reply};
 use rh_elements::{print_foot, print_head, print_remark, print_step_open};
-use rh_feed::LineTaker;
 use rh_lines::{Pen, Sink, WriteFailed, WriterPen, read_line};
 use rh_map::{Front, has_words};
 use rh_scene::{Kept, Messages, PageList, StepSender, is_still};
-use rh_session::Status;
+use rh_session::{LineTaker, Status};
 
 /// So many bytes of a sheet's beginning are held at a time.
 const HEAD_ROOM: usize = 16_384;
@@ -95,7 +94,7 @@ impl<D: Drawn> Painter<D> {
         ensures drew { DrewLine D.desk self.old (P.offered pen.old) line.now (Ok None) self.new (P.offered pen.new) }
         ensures steps { self.new.progress.steps ≡ self.old.progress.steps }
     {
-        self.drawn.spelled();
+        self.drawn.recall_desk();
         let wanted = is_wanted(self.progress.wanted(), line);
         self.progress.want(wanted);
         if !self.shows(line, wanted) {
@@ -182,7 +181,7 @@ impl<D: Drawn> Painter<D> {
         ensures steps { self.new.progress.steps ≡ self.old.progress.steps + 1 }
     {
         self.begin_step(sender);
-        self.drawn.spelled();
+        self.drawn.recall_desk();
         self.progress.leave_out();
     }
 

@@ -28,7 +28,7 @@ pub fn print_pool_figure<S: Sight, P: Pen>(sight: &S, step: &Step<'_>, pen: &mut
     requires { IsStepOf (S.desk sight.now) step.now }
     ensures { P.offered pen.new ≡ P.offered pen.old ++ pool_figure (scene_at (S.desk sight.now) step.now) }
 {
-    sight.spelled();
+    sight.recall_desk();
     let pages = step.pages.len() as u32;
     let height = pool_height(pages) + FRAME_EDGE;
     print_figure_open(FIGURE_WIDTH, height, b"The pool of pages", pen);
@@ -53,7 +53,7 @@ fn print_description<S: Sight, P: Pen>(sight: &S, step: &Step<'_>, pen: &mut P)
     ensures { P.offered pen.new ≡ P.offered pen.old
         ++ escape (pool_description (scene_at (S.desk sight.now) step.now)) }
 {
-    sight.spelled();
+    sight.recall_desk();
     let mut k = 0;
     'owners: while let Some(owner) = owner_at(sight, k) {
         print_sentence(sight, step, &owner, pen);
@@ -74,7 +74,7 @@ fn print_sentence<S: Sight, P: Pen>(sight: &S, step: &Step<'_>, owner: &OwnerSig
     ensures { P.offered pen.new ≡ P.offered pen.old ++ escape (owner_sentence (name_seen owner.now.named)
         ((scene_at (S.desk sight.now) step.now).share.pages_of (who_seen owner.now.named))) }
 {
-    sight.spelled();
+    sight.recall_desk();
     let pages = pages_of(sight, step.pages, owner.place);
     if pages.is_empty() {
         return;
@@ -102,7 +102,7 @@ fn print_body<S: Sight, P: Pen>(sight: &S, step: &Step<'_>, pen: &mut P)
     requires { IsStepOf (S.desk sight.now) step.now }
     ensures { P.offered pen.new ≡ P.offered pen.old ++ pool_body (scene_at (S.desk sight.now) step.now) }
 {
-    sight.spelled();
+    sight.recall_desk();
     print_all_squares(sight, step, pen);
     print_freed_squares(sight, step, pen);
     pen.put(b"<use href=\"#grid\"/>\n");
@@ -135,7 +135,7 @@ fn print_owner_squares<S: Sight, P: Pen>(
     ensures { P.offered pen.new ≡ P.offered pen.old
         ++ owner_squares (scene_at (S.desk sight.now) step.now) (holding_seen owner.now) }
 {
-    sight.spelled();
+    sight.recall_desk();
     let pages = pages_of(sight, step.pages, owner.place);
     let had = (step.kept.count(owner.named.owner()) as usize).min(pages.len());
     let (kept, taken) = pages.split_at(had);

@@ -3,15 +3,14 @@
 ghost use Rattle.std.specs.Prelude.{◌≡◌, ◌≤◌, [], length, true, IfErr, IfOk, IsErrOf};
 ghost use Rattle.rh_defs.specs.declared.sizes.TheConstants.{MOST_READS};
 ghost use Rattle.rh_defs.specs.Desk.{Desk};
-ghost use Rattle.rh_feed.specs.declared.feeding.TheConstants.{LONGEST_SCRIPT};
+ghost use Rattle.rh_session.specs.declared.feeding.TheConstants.{LONGEST_SCRIPT};
 ghost use Rattle.rh_lines.specs.Flow.{unread};
 ghost use Rattle.rh_pictures.specs.Painted.{Painted, PaintedSoFar, PaintedUntil};
 
 use crate::drawn::Drawn;
 use crate::sheet::painter::Painter;
-use rh_feed::{PIECE, feed_all, feed_whole};
 use rh_lines::{Sink, Source, WriteFailed};
-use rh_session::{RunFault, Status, run_fault};
+use rh_session::{PIECE, RunFault, Status, feed_all, feed_whole, run_fault};
 
 /// Runs a script with a name over what can be drawn, and writes its sheet: its beginning, and each step, or marked
 /// steps alone, each before it reads on. It gives up after 1,000,000 reads that gave bytes.

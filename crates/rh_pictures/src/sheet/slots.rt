@@ -55,7 +55,7 @@ pub fn print_slots<S: Sight, P: Pen>(sight: &S, step: &Step<'_>, lists: &mut Lis
     ensures { let x = scene_at (S.desk sight.now) step.now in
         P.offered pen.new ≡ P.offered pen.old ++ flat_map (slot_part x) x.desk.tasks }
 {
-    sight.spelled();
+    sight.recall_desk();
     let tasks = count_tasks(sight);
     let mut i = 0;
     'tasks: while let Some(task) = sight.task(i) {
@@ -80,7 +80,7 @@ fn print_slot<S: Sight, P: Pen>(
     ensures { (t : Task) → slice_get (S.desk sight.now).tasks i ≡ Some t →
         P.offered pen.new ≡ P.offered pen.old ++ slot_part (scene_at (S.desk sight.now) step.now) t }
 {
-    sight.spelled();
+    sight.recall_desk();
     print_slot_heading(task, pen);
     if !is_drawn(step, tasks, task.handle) {
         return;
@@ -121,7 +121,7 @@ fn print_figure<S: Sight, P: Pen>(
     ensures { (t : Task) → slice_get (S.desk sight.now).tasks i ≡ Some t →
         P.offered pen.new ≡ P.offered pen.old ++ slot_figure (scene_at (S.desk sight.now) step.now) t }
 {
-    sight.spelled();
+    sight.recall_desk();
     sight.blocks(i, &mut lists.blocks);
     slot_pieces(sight, step, i, task, &lists.blocks, &mut lists.pieces);
     let pages = pages_of(sight, step.pages, PagesOf::Slot(i));
@@ -185,7 +185,7 @@ fn print_description<S: Sight, P: Pen>(
     ensures { (t : Task) → slice_get (S.desk sight.now).tasks plan.now.i ≡ Some t →
         P.offered pen.new ≡ P.offered pen.old ++ escape (slot_description (scene_at (S.desk sight.now) step.now) t) }
 {
-    sight.spelled();
+    sight.recall_desk();
     put_pages(plan.plot.pages, pen);
     let mut row = Row::new();
     row.text(b"C heap of ");
@@ -215,7 +215,7 @@ fn print_body<S: Sight, P: Pen>(
     ensures { (t : Task) → slice_get (S.desk sight.now).tasks plan.now.i ≡ Some t →
         P.offered pen.new ≡ P.offered pen.old ++ slot_body (scene_at (S.desk sight.now) step.now) t }
 {
-    sight.spelled();
+    sight.recall_desk();
     let frame = plan.frame;
     print_lenses(sight, step, task, plan, pen);
     let above = BandForm::Above(top(frame).saturating_sub(LENS_HEIGHT));
@@ -246,7 +246,7 @@ fn print_lenses<S: Sight, P: Pen>(
     ensures { (t : Task) → slice_get (S.desk sight.now).tasks plan.now.i ≡ Some t →
         P.offered pen.new ≡ P.offered pen.old ++ slot_lenses plan.now.frame t.slot }
 {
-    sight.spelled();
+    sight.recall_desk();
     let low = C_HEAP_PLACE + task.heap_end as usize;
     let high = flex_end(&plan.plot);
     let count = plan.blocks.len() as u32;

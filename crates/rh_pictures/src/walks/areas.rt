@@ -18,7 +18,7 @@ pub fn show_areas<S: Sight, A: Artist, P: Pen>(sight: &S, step: &Step<'_>, artis
     ensures { P.offered pen.new ≡ P.offered pen.old
         ++ flat_map A.area_text (area_panels (scene_at (S.desk sight.now) step.now)) }
 {
-    sight.spelled();
+    sight.recall_desk();
     for number in 0..FIXED_AREAS as u32 {
         show_fixed(sight, step, number, artist, pen);
     }
@@ -39,7 +39,7 @@ fn show_fixed<S: Sight, A: Artist, P: Pen>(
         ++ flat_map A.area_text (fixed_panel (scene_at (S.desk sight.now) step.now)
         (number, slice_index (S.desk sight.now).areas number)) }
 {
-    sight.spelled();
+    sight.recall_desk();
     if number == MODULE_AREA || sight.fixed_pages(number) == 0 {
         return;
     }
@@ -67,7 +67,7 @@ fn show_made<S: Sight, A: Artist, P: Pen>(sight: &S, step: &Step<'_>, artist: &A
     ensures { P.offered pen.new ≡ P.offered pen.old
         ++ flat_map A.area_text (map (made_panel (scene_at (S.desk sight.now) step.now)) (S.desk sight.now).made) }
 {
-    sight.spelled();
+    sight.recall_desk();
     let mut i = 0;
     'areas: while let Some(area) = sight.made(i) {
         let pages = pages_of(sight, step.pages, PagesOf::Made(i));

@@ -69,7 +69,7 @@ pub fn show_heap_cards<S: Sight, A: CardArtist, P: Pen>(
         ++ cards_text (A.card_text artist.now) 0 (shown_cards (band_cards (scene_at (S.desk sight.now) step.now)
         (S.desk sight.now) band.now h))) }
 {
-    sight.spelled();
+    sight.recall_desk();
     let survey = take_survey(sight, step, band);
     let shown = shown_count(survey.count as usize);
     show_first(sight, step, band, shown, artist, pen);
@@ -142,7 +142,7 @@ fn take_survey<S: Sight>(sight: &S, step: &Step<'_>, band: &Band<'_>) -> Survey
     ensures { IfSome (heap_seen band.now.heap (S.desk sight.now))
         (λ h. IsSurvey (scene_at (S.desk sight.now) step.now) band.now h result) }
 {
-    sight.spelled();
+    sight.recall_desk();
     let mut place = HEAP_FIRST as u32;
     let mut survey = Survey {
         count: 0,
@@ -259,7 +259,7 @@ fn show_segment<S: Sight, A: CardArtist, P: Pen>(
               (heap_start_of band.now.heap + place) segment,
         ) }
 {
-    sight.spelled();
+    sight.recall_desk();
     match item {
         SegmentItem::Hole { address, size } => artist.hole_card(at, *address, *size, pen),
         SegmentItem::Used { address, size } => match band.heap {
@@ -341,7 +341,7 @@ fn show_message<S: Sight, A: CardArtist, P: Pen>(
         P.offered pen.new ≡ P.offered pen.old
         ++ A.card_text artist.now (at, post_card (scene_at (S.desk sight.now) step.now) p) }
 {
-    sight.spelled();
+    sight.recall_desk();
     let place = chain_place(place_of(step.messages, *message));
     let fresh = is_new_ref(step, message.my_ref);
     let sender = who_of(sight, message.from);

@@ -45,7 +45,7 @@ pub fn print_letter_part<S: Sight, P: Pen>(sight: &S, step: &Step<'_>, pen: &mut
     ensures { P.offered pen.new ≡ P.offered pen.old
         ++ shown_lines (letter_part (scene_at (S.desk sight.now) step.now)) }
 {
-    sight.spelled();
+    sight.recall_desk();
     if !has_letterboxes(sight, step.messages) {
         return;
     }
@@ -86,7 +86,7 @@ pub fn show_letterboxes<S: Sight, A: Artist, P: Pen>(
     ensures { P.offered pen.new ≡ P.offered pen.old
         ++ flat_map A.letterbox_text (letterboxes (scene_at (S.desk sight.now) step.now)) }
 {
-    sight.spelled();
+    sight.recall_desk();
     let mut i = 0;
     'tasks: while let Some(task) = sight.task(i) {
         show_letters(task.name, task.handle, step.messages, artist, pen);

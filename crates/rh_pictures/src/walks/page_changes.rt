@@ -45,7 +45,7 @@ fn show_fixed_takes<S: Sight, A: Artist, P: Pen>(
         ++ flat_map A.change_text (flat_map (takes_text (scene_at (S.desk sight.now) step.now))
         (map (fixed_holding (S.desk sight.now)) (enumerate_from 0 (S.desk sight.now).areas))) }
 {
-    sight.spelled();
+    sight.recall_desk();
     for number in 0..FIXED_AREAS as u32 {
         let has = sight.fixed_pages(number);
         show_area_takes(
@@ -67,7 +67,7 @@ fn show_made_takes<S: Sight, A: Artist, P: Pen>(sight: &S, step: &Step<'_>, arti
         ++ flat_map A.change_text (flat_map (takes_text (scene_at (S.desk sight.now) step.now))
         (map made_holding (S.desk sight.now).made)) }
 {
-    sight.spelled();
+    sight.recall_desk();
     let mut i = 0;
     'areas: while let Some(area) = sight.made(i) {
         let AreaSight {
@@ -96,7 +96,7 @@ fn show_area_takes<S: Sight, A: Artist, P: Pen>(
     ensures { P.offered pen.new ≡ P.offered pen.old
         ++ flat_map A.change_text (takes_text (scene_at (S.desk sight.now) step.now) (AreaOf number, has)) }
 {
-    sight.spelled();
+    sight.recall_desk();
     let had = step.kept.count(Owner::Area(number));
     if had >= has {
         return;
@@ -133,7 +133,7 @@ fn show_slot_takes<S: Sight, A: Artist, P: Pen>(
     ensures { (t : Task) → slice_get (S.desk sight.now).tasks i ≡ Some t → P.offered pen.new ≡ P.offered pen.old
         ++ flat_map A.change_text (takes_text (scene_at (S.desk sight.now) step.now) (slot_holding t)) }
 {
-    sight.spelled();
+    sight.recall_desk();
     let had = step.kept.count(Owner::Slot(task.handle));
     if had >= task.pages {
         return;
@@ -161,7 +161,7 @@ pub fn freed_of<'a, S: Sight>(sight: &S, step: &Step<'a>) -> &'a [u16]
     ensures value { result.now ≡ freed_pages (scene_at (S.desk sight.now) step.now) }
     ensures few { length result.now ≤ MAX_PAGES }
 {
-    sight.spelled();
+    sight.recall_desk();
     let free = free_of(sight, step.pages);
     let had = (step.kept.free() as usize).min(free.len());
     &free[had..]

@@ -1,6 +1,6 @@
 -- Items that are put into a list from an index on.
 use Rattle.std.specs.Prelude.{ℕ, List, ◌++◌, take, drop}
-use Rattle.rh_console.specs.Console.{filled_front}
+use Rattle.vf_desk.specs.Console.{filled_front}
 
 -- the old list with the items in place of those from an index on, as many as it has room for
 abbrev pub filled_from : {A : Type 0} → ℕ → List A → List A → List A

@@ -8,7 +8,7 @@ pub returns : goal.returns
 returns g c =
     let d = g.D.Sight.desk c.args.drawn.now in
     let text = answer_text (asked d c.args.question.now) in
-    let told = answer-few d c.spelled.ensures c.look_over.ensures c.args.question.now in
+    let told = answer-few d c.recall_desk.ensures c.look_over.ensures c.args.question.now in
     let whole = written c.clear.ensures c.put_answer.ensures.offered ∙ c.put_answer.ensures.told d (g.met.D.Drawn.seen c.args.drawn.now) in
     let count = counted-is told.count text told.counted in
     let P : ℕ → Type 0 = λ n. Excerpts (front_of text) n text in

@@ -7,8 +7,8 @@ use Rattle.rh_scene.proofs.pages.made_before.Goals.{in-Some, in_default}
 
 pub overflow_add-count : goal.overflow_add-count
 overflow_add-count g c =
-    let few = made-few c.spelled.ensures c.loop-i.i in
-    let all = made-all-few c.spelled.ensures in
+    let few = made-few c.recall_desk.ensures c.loop-i.i in
+    let all = made-all-few c.recall_desk.ensures in
     let one = total-one (λ (m : Made). m.pages) (g.S.Sight.desk c.args.sight.now).made c.loop-i.i _ c.in-Some.ensures.some in
     let so_far = c.loop-i.invariant in
     omega arith

@@ -8,8 +8,8 @@ use Rattle.rh_scene.proofs.pages.slots_before.Goals.{in-Some, in_default}
 pub overflow_add-count : goal.overflow_add-count
 overflow_add-count g c =
     let s = c.in-Some.ensures.some in
-    let few = slots-few c.spelled.ensures c.loop-i.i in
-    let all = slots-all-few c.spelled.ensures in
+    let few = slots-few c.recall_desk.ensures c.loop-i.i in
+    let all = slots-all-few c.recall_desk.ensures in
     let one = total-one task_pages (g.S.Sight.desk c.args.sight.now).tasks c.loop-i.i s.0 s.1 in
     let so_far = c.loop-i.invariant in
     let told = s.2.pages in

@@ -38,7 +38,7 @@ overflow_sub-top g c =
     let r = some-of (heap_seen c.args.drawn.now.heap (g.S.Sight.desk c.args.sight.now)) c.requires.heap in
     let at = at-heap r.0 r.1 (λ k. c.push_segments-place.result ≡ place_after (take 512 k.segments)) c.push_segments-place.ensures.place in
     let census = c.take_census-others.ensures (drop 512 r.0.segments) (comes-at r.0 512 c.push_segments-place.result r.1 at) in
-    let fits = fits-at 512 c.push_segments-place.result r.0 at (seen c.spelled.ensures c.args.drawn.now.heap r.0 r.1) in
+    let fits = fits-at 512 c.push_segments-place.result r.0 at (seen c.recall_desk.ensures c.args.drawn.now.heap r.0 r.1) in
     let end = at-heap r.0 r.1 (λ k. c.heap_end.result ≡ k.end) c.heap_end.ensures in
     omega (arith, ap (λ (x : Census). x.end) census)
 

@@ -31,7 +31,7 @@ place_behind-place-requires-clause-low g c =
     let items = turn-items r.0 r.1 start n c.loop-turn.place c.segments-items.result.items c.loop-turn.invariant.place c.segments-items.ensures in
     let here = c.in-Some.ensures.value ∙ ap (λ xs. slice_get xs (length xs - 1)) c.deref-in-loop-turn.ensures.0 in
     (turn-ends start n c.loop-turn.place r.0 c.segments-items.result.items c.in-Some.last.now
-    (turn-place r.0 r.1 n c.loop-turn.place c.loop-turn.invariant.place) items here (seen c.spelled.ensures c.args.drawn.now.heap r.0 r.1)).0
+    (turn-place r.0 r.1 n c.loop-turn.place c.loop-turn.invariant.place) items here (seen c.recall_desk.ensures c.args.drawn.now.heap r.0 r.1)).0
 
 pub place_behind-place-requires-clause-small : goal.place_behind-place-requires-clause-small
 place_behind-place-requires-clause-small g c =
@@ -41,7 +41,7 @@ place_behind-place-requires-clause-small g c =
     let items = turn-items r.0 r.1 start n c.loop-turn.place c.segments-items.result.items c.loop-turn.invariant.place c.segments-items.ensures in
     let here = c.in-Some.ensures.value ∙ ap (λ xs. slice_get xs (length xs - 1)) c.deref-in-loop-turn.ensures.0 in
     let ends = turn-ends start n c.loop-turn.place r.0 c.segments-items.result.items c.in-Some.last.now
-    (turn-place r.0 r.1 n c.loop-turn.place c.loop-turn.invariant.place) items here (seen c.spelled.ensures c.args.drawn.now.heap r.0 r.1) in
+    (turn-place r.0 r.1 n c.loop-turn.place c.loop-turn.invariant.place) items here (seen c.recall_desk.ensures c.args.drawn.now.heap r.0 r.1) in
     omega (arith, ends.1, start-small c.args.drawn.now.heap)
 
 pub loop-turn-preserved : goal.loop-turn-preserved

@@ -28,7 +28,7 @@ push_blocks-end-requires-clause-few g c =
       ap length c.clear.ensures,
       ap length r.3,
       items-long (flex_start t.slot) t.slot.blocks,
-      few-blocks t.slot.blocks (task-slot c.spelled.ensures c.args.i t r.1).anchors,
+      few-blocks t.slot.blocks (task-slot c.recall_desk.ensures c.args.i t r.1).anchors,
     )
 
 pub push_blocks-end-requires-clause-small : goal.push_blocks-end-requires-clause-small
@@ -37,7 +37,7 @@ push_blocks-end-requires-clause-small g c =
     let t = r.0 in
     let most = r.2.heap_end in
     let all = weights-are t.slot c.args.blocks.now r.3 in
-    let room = task-length c.spelled.ensures c.args.i t r.1 in
+    let room = task-length c.recall_desk.ensures c.args.i t r.1 in
     let low = room.0 in
     let high = room.1 in
     omega arith
@@ -49,7 +49,7 @@ overflow_sub-unused g c =
     let most = r.2.heap_end in
     let pages = r.2.pages in
     let all = weights-are t.slot c.args.blocks.now r.3 in
-    let room = task-length c.spelled.ensures c.args.i t r.1 in
+    let room = task-length c.recall_desk.ensures c.args.i t r.1 in
     let low = room.0 in
     let end = c.push_blocks-end.ensures.end in
     omega arith
@@ -74,7 +74,7 @@ push-requires-2 g c =
       ap length c.clear.ensures,
       ap length r.3,
       items-long (flex_start t.slot) t.slot.blocks,
-      few-blocks t.slot.blocks (task-slot c.spelled.ensures c.args.i t r.1).anchors,
+      few-blocks t.slot.blocks (task-slot c.recall_desk.ensures c.args.i t r.1).anchors,
       ap length (c.push_blocks-end.ensures.pieces d),
       length-append c.push_heap.new.pieces.items (item_pieces x c.args.task.now.handle (heap_place + c.args.task.now.heap_end) c.args.blocks.now),
       items-few x c.args.task.now.handle (heap_place + c.args.task.now.heap_end) c.args.blocks.now,

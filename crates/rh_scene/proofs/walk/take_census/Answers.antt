@@ -10,7 +10,7 @@ overflow_add-count g c =
     let r = c.requires in
     let k = c.places.invariant r.0 r.1 in
     let here = c.in-Some.ensures.value ∙ ap (λ xs. slice_get xs (length xs - 1)) c.deref.ensures.0 in
-    let s = stepped r.1 k 0 c.in-Some.last.now (seen c.spelled.ensures c.args.heap r.1.heap r.1.is) here in
+    let s = stepped r.1 k 0 c.in-Some.last.now (seen c.recall_desk.ensures c.args.heap r.1.heap r.1.is) here in
     omega (arith, s.few, c.len.ensures.value)
 
 pub place_behind-end-requires-clause-low : goal.place_behind-end-requires-clause-low
@@ -18,7 +18,7 @@ place_behind-end-requires-clause-low g c =
     let r = c.requires in
     let k = c.places.invariant r.0 r.1 in
     let here = c.in-Some.ensures.value ∙ ap (λ xs. slice_get xs (length xs - 1)) c.deref.ensures.0 in
-    let s = stepped r.1 k 0 c.in-Some.last.now (seen c.spelled.ensures c.args.heap r.1.heap r.1.is) here in
+    let s = stepped r.1 k 0 c.in-Some.last.now (seen c.recall_desk.ensures c.args.heap r.1.heap r.1.is) here in
     s.low
 
 pub place_behind-end-requires-clause-small : goal.place_behind-end-requires-clause-small
@@ -26,7 +26,7 @@ place_behind-end-requires-clause-small g c =
     let r = c.requires in
     let k = c.places.invariant r.0 r.1 in
     let here = c.in-Some.ensures.value ∙ ap (λ xs. slice_get xs (length xs - 1)) c.deref.ensures.0 in
-    let s = stepped r.1 k 0 c.in-Some.last.now (seen c.spelled.ensures c.args.heap r.1.heap r.1.is) here in
+    let s = stepped r.1 k 0 c.in-Some.last.now (seen c.recall_desk.ensures c.args.heap r.1.heap r.1.is) here in
     omega (arith, s.small, start-small c.args.heap)
 
 pub segments-items-requires-in-Some : goal.segments-items-requires-in-Some
@@ -41,7 +41,7 @@ places-smaller g c =
     let r = c.requires in
     let k = c.places.invariant r.0 r.1 in
     let here = c.in-Some.ensures.value ∙ ap (λ xs. slice_get xs (length xs - 1)) c.deref.ensures.0 in
-    let s = stepped r.1 k c.place_behind-end.result c.in-Some.last.now (seen c.spelled.ensures c.args.heap r.1.heap r.1.is) here in
+    let s = stepped r.1 k c.place_behind-end.result c.in-Some.last.now (seen c.recall_desk.ensures c.args.heap r.1.heap r.1.is) here in
     omega (arith, s.goes c.place_behind-end.ensures, s.within c.place_behind-end.ensures)
 
 pub places-preserved : goal.places-preserved

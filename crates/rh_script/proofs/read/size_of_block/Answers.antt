@@ -16,7 +16,8 @@ returns-in-Err-clause-refused g c =
 
 pub returns-in-Ok-clause-refused : goal.returns-in-Ok-clause-refused
 returns-in-Ok-clause-refused g c =
-    shows_none c.args.world.now.desk c.args.name.now c.args.anchor _ _ _ (named_is_slot c.args.name.now c.args.world.now.desk c.spelled.ensures.desk.slots)
+    shows_none c.args.world.now.desk c.args.name.now c.args.anchor _ _ _
+    (named_is_slot c.args.name.now c.args.world.now.desk c.recall_spelling.ensures.desk.slots)
     (grind (arith, tests)) c.in-Ok.ensures.ok
 
 pub returns-clause-told : goal.returns-clause-told

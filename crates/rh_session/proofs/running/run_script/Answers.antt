@@ -1,4 +1,4 @@
-use Rattle.rh_feed.specs.declared.fault.FeedFault.TheVariants as feed
+use Rattle.rh_session.specs.declared.fault.FeedFault.TheVariants as feed
 use Rattle.rh_session.proofs.RunLemmas.{answered, broke, finished, same_fault, started}
 use Rattle.rh_session.proofs.running.run_script.Goals as goal
 

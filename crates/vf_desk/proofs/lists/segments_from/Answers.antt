@@ -6,18 +6,18 @@ pub returns-in-Ok-clause-items : goal.returns-in-Ok-clause-items
 returns-in-Ok-clause-items c = segments_read c.args.world.now.desk c.args.name.now c.args.place _ c.in-Ok.ensures.ok
 
 pub returns-in-Ok-clause-heap : goal.returns-in-Ok-clause-heap
-returns-in-Ok-clause-heap c = (named_is_slot c.args.name.now c.args.world.now.desk c.spelled.ensures.desk.slots).heap
+returns-in-Ok-clause-heap c = (named_is_slot c.args.name.now c.args.world.now.desk c.recall_spelling.ensures.desk.slots).heap
 
 pub returns-in-Ok-clause-short : goal.returns-in-Ok-clause-short
-returns-in-Ok-clause-short c = omega (arith, named_is_short c.args.name.now c.args.world.now.desk c.spelled.ensures.desk)
+returns-in-Ok-clause-short c = omega (arith, named_is_short c.args.name.now c.args.world.now.desk c.recall_spelling.ensures.desk)
 
 pub returns-in-Err-clause-items : goal.returns-in-Err-clause-items
 returns-in-Err-clause-items c =
     c.new.ensures ∙ no_segments c.args.world.now.desk c.args.name.now c.args.place _ c.in-Err.ensures.err
 
 pub returns-in-Err-clause-heap : goal.returns-in-Err-clause-heap
-returns-in-Err-clause-heap c = (named_is_slot c.args.name.now c.args.world.now.desk c.spelled.ensures.desk.slots).heap
+returns-in-Err-clause-heap c = (named_is_slot c.args.name.now c.args.world.now.desk c.recall_spelling.ensures.desk.slots).heap
 
 pub returns-in-Err-clause-short : goal.returns-in-Err-clause-short
 returns-in-Err-clause-short c =
-    omega (arith, named_is_short c.args.name.now c.args.world.now.desk c.spelled.ensures.desk)
+    omega (arith, named_is_short c.args.name.now c.args.world.now.desk c.recall_spelling.ensures.desk)

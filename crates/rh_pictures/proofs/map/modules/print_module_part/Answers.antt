@@ -17,16 +17,16 @@ heading n = heading_line (name_with_mark [] (codes "Module area") 49) (pages_tex
 pub print_area-requires-clause-few : goal.print_area-requires-clause-few
 print_area-requires-clause-few g c =
     let ps = c.args.step.now.pages.now in
-    let seen = seen-fixed c.spelled.ensures 1 (omega arith) in
-    let is = owned c.spelled.ensures ps c.requires.shared (pages.Fixed 1) (AreaOf 1) c.pages_of.result.now seen c.pages_of.ensures in
-    omega (arith, ap length is, owned-few c.spelled.ensures ps c.requires.shared (pages.Fixed 1) (AreaOf 1) seen c.requires.all)
+    let seen = seen-fixed c.recall_desk.ensures 1 (omega arith) in
+    let is = owned c.recall_desk.ensures ps c.requires.shared (pages.Fixed 1) (AreaOf 1) c.pages_of.result.now seen c.pages_of.ensures in
+    omega (arith, ap length is, owned-few c.recall_desk.ensures ps c.requires.shared (pages.Fixed 1) (AreaOf 1) seen c.requires.all)
 
 pub returns : goal.returns
 returns g c =
     let d = g.S.Sight.desk c.args.sight.now in
     let x = scene_at d c.args.step.now in
-    let is = owned c.spelled.ensures c.args.step.now.pages.now c.requires.shared (pages.Fixed 1) (AreaOf 1) c.pages_of.result.now
-    (seen-fixed c.spelled.ensures 1 (omega arith)) c.pages_of.ensures in
+    let is = owned c.recall_desk.ensures c.args.step.now.pages.now c.requires.shared (pages.Fixed 1) (AreaOf 1) c.pages_of.result.now
+    (seen-fixed c.recall_desk.ensures 1 (omega arith)) c.pages_of.ensures in
     lines_then _ (heading (module_pages d) ∷ []) (area_rows (module_drawing x) ++ card_lines (shown_cards (module_cards x)))
     (offered_line _ (ap heading c.fixed_pages.ensures) c.print_module_heading.ensures)
     (lines_then _ (area_rows (module_drawing x)) (card_lines (shown_cards (module_cards x)))

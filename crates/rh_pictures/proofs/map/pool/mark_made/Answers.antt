@@ -10,8 +10,8 @@ areas-preserved g c =
     let ps = c.args.step.now.pages.now in
     let s = share_in ps d in
     let rest = map (made_pages s) (drop (c.areas.i + 1) d.made) in
-    let is = owned c.spelled.ensures ps c.requires.shared (pages.Made c.areas.i) (AreaOf c.in-Some.area.number) c.pages_of-pages.result.now
-    (seen-made c.spelled.ensures c.areas.i _ c.in-Some.ensures.some) c.pages_of-pages.ensures in
+    let is = owned c.recall_desk.ensures ps c.requires.shared (pages.Made c.areas.i) (AreaOf c.in-Some.area.number) c.pages_of-pages.result.now
+    (seen-made c.recall_desk.ensures c.areas.i _ c.in-Some.ensures.some) c.pages_of-pages.ensures in
     ap (marked_all rest) (c.mark_pages.ensures ∙ ap₂ (λ z m. marked z m c.areas.marks) is (c.area_mark.ensures []))
     ∙ (ap (λ z. marked_all (map (made_pages s) z) c.areas.marks) (sym (rest-some d.made c.areas.i _ c.in-Some.ensures.some)) ∙ c.areas.invariant)
 

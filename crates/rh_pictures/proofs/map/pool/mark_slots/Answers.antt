@@ -17,8 +17,8 @@ tasks-preserved g c =
     let r = c.in-Some.ensures.some in
     let i = c.tasks.i in
     let rest = drop (i + 1) d.tasks in
-    let is = owned c.spelled.ensures ps c.requires.shared (pages.Slot i) (SlotOf r.0.handle) c.pages_of-pages.result.now
-    (seen-slot c.spelled.ensures i r.0 r.1) c.pages_of-pages.ensures in
+    let is = owned c.recall_desk.ensures ps c.requires.shared (pages.Slot i) (SlotOf r.0.handle) c.pages_of-pages.result.now
+    (seen-slot c.recall_desk.ensures i r.0 r.1) c.pages_of-pages.ensures in
     ap (λ n. marked_all (slot_pages_from s n rest) c.mark_pages.new.marks) (add-one i)
     ∙ (ap (marked_all (slot_pages_from s (suc i) rest)) (c.mark_pages.ensures ∙ ap₂ (λ z m. marked z m c.tasks.marks) is c.slot_mark.ensures)
     ∙ (ap (λ z. marked_all (slot_pages_from s i z) c.tasks.marks) (sym (rest-some d.tasks i r.0 r.1)) ∙ c.tasks.invariant))

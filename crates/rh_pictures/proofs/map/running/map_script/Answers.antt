@@ -1,4 +1,4 @@
-use Rattle.rh_feed.specs.declared.fault.FeedFault.TheVariants as feed
+use Rattle.rh_session.specs.declared.fault.FeedFault.TheVariants as feed
 use Rattle.rh_session.proofs.RunLemmas.{same_fault}
 use Rattle.rh_pictures.proofs.MapRunLemmas.{mapped, mapped_so_far, mapped_until, stands_first}
 use Rattle.rh_pictures.proofs.map.running.map_script.Goals as goal

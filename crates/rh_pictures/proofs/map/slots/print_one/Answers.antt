@@ -11,7 +11,7 @@ use Rattle.rh_pictures.proofs.map.slots.print_one.Goals as goal
 pub print_heading-requires : goal.print_heading-requires
 print_heading-requires g c =
     let r = c.requires.task in
-    omega (arith, c.spelled.ensures.few, slice_get_within (g.S.Sight.desk c.args.sight.now).tasks c.args.i r.0 r.1)
+    omega (arith, c.recall_desk.ensures.few, slice_get_within (g.S.Sight.desk c.args.sight.now).tasks c.args.i r.0 r.1)
 
 pub returns-then-not-is_drawn : goal.returns-then-not-is_drawn
 returns-then-not-is_drawn g c = λ t e.
@@ -21,7 +21,7 @@ returns-then-not-is_drawn g c = λ t e.
     let seen = seen-same (IsTaskSeen c.args.task.now) d.tasks c.args.i r.0 t r.1 e r.2 in
     let off : is_drawn x t ≡ false = sym (c.is_drawn.ensures d t c.requires.tasks seen.handle) ∙ c.if-not-is_drawn.true in
     offered_as _ (ap (λ (b : Bool). shown_lines (slot_heading x t ∷ drawing_lines (if b then Some (slot_drawing x t) else None))) (sym off))
-    (c.print_heading.ensures x t seen e (slot-stands c.spelled.ensures x c.args.i t e))
+    (c.print_heading.ensures x t seen e (slot-stands c.recall_desk.ensures x c.args.i t e))
 
 pub returns : goal.returns
 returns g c = λ t e.
@@ -32,4 +32,4 @@ returns g c = λ t e.
     let on : is_drawn x t ≡ true = sym (c.is_drawn.ensures d t c.requires.tasks seen.handle) ∙ c.if-not-is_drawn.false in
     offered_as _ (ap (λ (b : Bool). shown_lines (slot_heading x t ∷ drawing_lines (if b then Some (slot_drawing x t) else None))) (sym on))
     (lines_then _ (slot_heading x t ∷ []) (drawing_lines (Some (slot_drawing x t)))
-    (c.print_heading.ensures x t seen e (slot-stands c.spelled.ensures x c.args.i t e)) (c.print_slot.ensures t e))
+    (c.print_heading.ensures x t seen e (slot-stands c.recall_desk.ensures x c.args.i t e)) (c.print_slot.ensures t e))

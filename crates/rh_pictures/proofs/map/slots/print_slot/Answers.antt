@@ -28,9 +28,9 @@ pub print_area-requires-clause-few : goal.print_area-requires-clause-few
 print_area-requires-clause-few g c =
     let r = c.requires.task in
     let ps = c.args.step.now.pages.now in
-    let seen = seen-slot c.spelled.ensures c.args.i r.0 r.1 in
-    let is = owned c.spelled.ensures ps c.requires.step.shared (pages.Slot c.args.i) (SlotOf r.0.handle) c.pages_of.result.now seen c.pages_of.ensures in
-    omega (arith, ap length is, owned-few c.spelled.ensures ps c.requires.step.shared (pages.Slot c.args.i) (SlotOf r.0.handle) seen c.requires.step.all)
+    let seen = seen-slot c.recall_desk.ensures c.args.i r.0 r.1 in
+    let is = owned c.recall_desk.ensures ps c.requires.step.shared (pages.Slot c.args.i) (SlotOf r.0.handle) c.pages_of.result.now seen c.pages_of.ensures in
+    omega (arith, ap length is, owned-few c.recall_desk.ensures ps c.requires.step.shared (pages.Slot c.args.i) (SlotOf r.0.handle) seen c.requires.step.all)
 
 pub show_flex_cards-requires-clause-task : goal.show_flex_cards-requires-clause-task
 show_flex_cards-requires-clause-task g c = let r = c.requires.task in (r.0, r.1, r.2, c.deref-3.ensures.0 ∙ c.blocks-2.ensures r.0 r.1)
@@ -38,7 +38,7 @@ show_flex_cards-requires-clause-task g c = let r = c.requires.task in (r.0, r.1,
 pub show_flex_cards-requires-clause-few : goal.show_flex_cards-requires-clause-few
 show_flex_cards-requires-clause-few g c =
     let r = c.requires.task in
-    let few = few-blocks r.0.slot.blocks (task-slot c.spelled.ensures c.args.i r.0 r.1).anchors in
+    let few = few-blocks r.0.slot.blocks (task-slot c.recall_desk.ensures c.args.i r.0 r.1).anchors in
     omega (arith, few, items-long (flex_start r.0.slot) r.0.slot.blocks, ap length (c.deref-3.ensures.0 ∙ c.blocks-2.ensures r.0 r.1))
 
 pub show_heap_cards-requires-clause-band : goal.show_heap_cards-requires-clause-band
@@ -53,8 +53,8 @@ pub returns : goal.returns
 returns g c = λ t e.
     let d = g.S.Sight.desk c.args.sight.now in
     let x = scene_at d c.args.step.now in
-    let seen = seen-slot c.spelled.ensures c.args.i t e in
-    let is = owned c.spelled.ensures c.args.step.now.pages.now c.requires.step.shared (pages.Slot c.args.i) (SlotOf t.handle) c.pages_of.result.now seen
+    let seen = seen-slot c.recall_desk.ensures c.args.i t e in
+    let is = owned c.recall_desk.ensures c.args.step.now.pages.now c.requires.step.shared (pages.Slot c.args.i) (SlotOf t.handle) c.pages_of.result.now seen
     c.pages_of.ensures in
     let heap = at-some (heap_seen (heap_of.Task c.args.i) d) _ t.slot.heap (ap (option_map (λ (u : Task). u.slot.heap)) e) c.show_heap_cards.ensures in
     let cards : Option Task → List Card = λ o. shown_cards (cards_from (card_of_task x o) (heap_start + first_place) t.slot.heap.segments) in

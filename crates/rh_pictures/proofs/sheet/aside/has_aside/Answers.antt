@@ -10,7 +10,7 @@ returns-then-has_letterboxes g c =
     let x = scene_at (g.S.Sight.desk c.args.sight.now) c.args.step.now in
     let none : (length c.args.notes.now == 0) ≡ true = sym c.is_empty.ensures ∙ c.if-not-is_empty.false in
     let letters : c.has_letterboxes.result ≡ is_some (letterboxes x) =
-    c.has_letterboxes.ensures ∙ sym (boxes-told c.spelled.ensures ms c.requires.messages) in
+    c.has_letterboxes.ensures ∙ sym (boxes-told c.recall_desk.ensures ms c.requires.messages) in
     c.if-has_letterboxes.true
     ∙ sym (ap₂ (λ a b. not a || b || is_some (transfers x)) none (sym letters ∙ c.if-has_letterboxes.true))
 
@@ -21,7 +21,7 @@ returns-else-has_letterboxes g c =
     let x = scene_at (g.S.Sight.desk c.args.sight.now) c.args.step.now in
     let none : (length c.args.notes.now == 0) ≡ true = sym c.is_empty.ensures ∙ c.if-not-is_empty.false in
     let letters : c.has_letterboxes.result ≡ is_some (letterboxes x) =
-    c.has_letterboxes.ensures ∙ sym (boxes-told c.spelled.ensures ms c.requires.messages) in
+    c.has_letterboxes.ensures ∙ sym (boxes-told c.recall_desk.ensures ms c.requires.messages) in
     c.has_transfers.ensures
     ∙ (sides-some (outs_of d) (ins_of d)
     ∙ sym (ap₂ (λ a b. not a || b || is_some (transfers x)) none (sym letters ∙ c.if-has_letterboxes.false)))

@@ -11,7 +11,7 @@ returns-then-not-has_letterboxes g c =
     let ms = c.args.step.now.messages.now in
     let bs = letterboxes (scene_at (g.S.Sight.desk c.args.sight.now) c.args.step.now) in
     let none : is_some bs ≡ false =
-    boxes-told c.spelled.ensures ms c.requires.step.messages ∙ (sym c.has_letterboxes.ensures ∙ c.if-not-has_letterboxes.true) in
+    boxes-told c.recall_desk.ensures ms c.requires.step.messages ∙ (sym c.has_letterboxes.ensures ∙ c.if-not-has_letterboxes.true) in
     offered_as _ (sym (rows-none messages_heading letterbox_row bs none)) (offered_none _)
 
 pub returns : goal.returns
@@ -19,6 +19,6 @@ returns g c =
     let ms = c.args.step.now.messages.now in
     let bs = letterboxes (scene_at (g.S.Sight.desk c.args.sight.now) c.args.step.now) in
     let some : is_some bs ≡ true =
-    boxes-told c.spelled.ensures ms c.requires.step.messages ∙ (sym c.has_letterboxes.ensures ∙ c.if-not-has_letterboxes.false) in
+    boxes-told c.recall_desk.ensures ms c.requires.step.messages ∙ (sym c.has_letterboxes.ensures ∙ c.if-not-has_letterboxes.false) in
     offered_as _ (sym (rows-some messages_heading letterbox_row bs some))
     (simp (c.put.ensures, c.put-2.ensures, c.show_letterboxes.ensures, c.put-3.ensures, append_assoc))

@@ -20,7 +20,7 @@ print_rows-requires-clause-start g c = omega (arith, ap (λ (p : Plot). p.start)
 
 pub print_rows-requires-clause-few : goal.print_rows-requires-clause-few
 print_rows-requires-clause-few g c =
-    let few = owned-few c.spelled.ensures c.args.step.now.pages.now c.requires.step.shared (pages.Fixed 1) (AreaOf 1) (seen-fixed c.spelled.ensures 1
+    let few = owned-few c.recall_desk.ensures c.args.step.now.pages.now c.requires.step.shared (pages.Fixed 1) (AreaOf 1) (seen-fixed c.recall_desk.ensures 1
     (omega arith)) c.requires.step.all in
     omega (arith, few, ap (λ (p : Plot). length p.pages) c.requires.plot)
 
@@ -32,11 +32,11 @@ print_rows-requires-clause-pieces g c =
     let d = g.S.Sight.desk c.args.sight.now in
     let x = scene_at d c.args.step.now in
     let ps = c.args.step.now.pages.now in
-    let few = owned-few c.spelled.ensures ps c.requires.step.shared (pages.Fixed 1) (AreaOf 1) (seen-fixed c.spelled.ensures 1
+    let few = owned-few c.recall_desk.ensures ps c.requires.step.shared (pages.Fixed 1) (AreaOf 1) (seen-fixed c.recall_desk.ensures 1
     (omega arith)) c.requires.step.all in
-    let long = owned-fixed c.spelled.ensures ps c.requires.step.shared 1 (module_pages d) (omega arith) refl in
-    let ends = heap-ends (2 ^ 30) (module_legend x) 0 d.post.heap c.spelled.ensures.post.heap.heap.fits (omega
-    (arith, few, long, c.spelled.ensures.post.heap.whole)) in
+    let long = owned-fixed c.recall_desk.ensures ps c.requires.step.shared 1 (module_pages d) (omega arith) refl in
+    let ends = heap-ends (2 ^ 30) (module_legend x) 0 d.post.heap c.recall_desk.ensures.post.heap.heap.fits (omega
+    (arith, few, long, c.recall_desk.ensures.post.heap.whole)) in
     subst (AllByRecursion (EndsBy (2 ^ 30))) (sym (ap (λ (p : Plot). p.pieces) c.requires.plot)) ends
 
 pub returns : goal.returns

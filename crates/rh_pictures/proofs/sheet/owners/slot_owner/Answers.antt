@@ -4,4 +4,4 @@ use Rattle.rh_pictures.proofs.sheet.owners.slot_owner.Goals as goal
 pub returns-in-Some-clause-some : goal.returns-in-Some-clause-some
 returns-in-Some-clause-some g c =
     let seen = c.in-Some.ensures.some in
-    slot-owner c.spelled.ensures c.args.i c.in-Some.task seen.0 seen.1 seen.2
+    slot-owner c.recall_desk.ensures c.args.i c.in-Some.task seen.0 seen.1 seen.2

@@ -28,13 +28,13 @@ pub pages_told-tip-requires : goal.pages_told-tip-requires
 pages_told-tip-requires g c =
     let ps = c.args.step.now.pages.now in
     let is = owner-pages ps c.requires.step.shared c.requires.owner c.pages_of-pages.result.now c.pages_of-pages.ensures in
-    omega (arith, ap length is, owner-few ps c.requires.step.shared c.requires.owner c.spelled.ensures c.requires.step.all)
+    omega (arith, ap length is, owner-few ps c.requires.step.shared c.requires.owner c.recall_desk.ensures c.requires.step.all)
 
 pub takes_told-tip-requires : goal.takes_told-tip-requires
 takes_told-tip-requires g c =
     let ps = c.args.step.now.pages.now in
     let is = owner-pages ps c.requires.step.shared c.requires.owner c.pages_of-pages.result.now c.pages_of-pages.ensures in
-    omega (arith, c.split_at.ensures.back_len, ap length is, owner-few ps c.requires.step.shared c.requires.owner c.spelled.ensures c.requires.step.all)
+    omega (arith, c.split_at.ensures.back_len, ap length is, owner-few ps c.requires.step.shared c.requires.owner c.recall_desk.ensures c.requires.step.all)
 
 pub returns : goal.returns
 returns g c =

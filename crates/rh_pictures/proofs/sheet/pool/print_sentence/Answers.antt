@@ -6,4 +6,4 @@ pub pages_told-row-requires : goal.pages_told-row-requires
 pages_told-row-requires g c =
     let ps = c.args.step.now.pages.now in
     let is = owner-pages ps c.requires.step.shared c.requires.owner c.pages_of-pages.result.now c.pages_of-pages.ensures in
-    omega (arith, ap length is, owner-few ps c.requires.step.shared c.requires.owner c.spelled.ensures c.requires.step.all)
+    omega (arith, ap length is, owner-few ps c.requires.step.shared c.requires.owner c.recall_desk.ensures c.requires.step.all)

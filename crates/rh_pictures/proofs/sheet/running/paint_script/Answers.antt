@@ -1,7 +1,7 @@
 use Rattle.std.proofs.Common.{◌∙◌, [], sym}
 use Rattle.rh_session.proofs.RunLemmas.{same_fault}
-use Rattle.rh_feed.proofs.FeedLemmas.{Consumes-none}
-use Rattle.rh_feed.specs.declared.fault.FeedFault.TheVariants as feed
+use Rattle.rh_session.proofs.FeedLemmas.{Consumes-none}
+use Rattle.rh_session.specs.declared.fault.FeedFault.TheVariants as feed
 use Rattle.rh_pictures.proofs.SheetRunLemmas.{began, broke-off, painted, painted-head, painted-so-far, painted-until}
 use Rattle.rh_pictures.proofs.sheet.running.paint_script.Goals as goal
 

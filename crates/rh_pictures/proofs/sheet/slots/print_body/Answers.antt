@@ -35,13 +35,13 @@ parts-same x {h} {k} {f} {g} {bs} {cs} i j l =
 pub show_flex_cards-requires-clause-few : goal.show_flex_cards-requires-clause-few
 show_flex_cards-requires-clause-few g c =
     let r = c.requires.task in
-    let few = few-blocks r.0.slot.blocks (task-slot c.spelled.ensures c.args.plan.now.i r.0 r.1).anchors in
+    let few = few-blocks r.0.slot.blocks (task-slot c.recall_desk.ensures c.args.plan.now.i r.0 r.1).anchors in
     omega (arith, few, items-long (flex_start r.0.slot) r.0.slot.blocks, ap length r.3.blocks)
 
 pub print_arrow_of-requires : goal.print_arrow_of-requires
 print_arrow_of-requires g c =
     let r = c.requires.task in
-    let few = few-blocks r.0.slot.blocks (task-slot c.spelled.ensures c.args.plan.now.i r.0 r.1).anchors in
+    let few = few-blocks r.0.slot.blocks (task-slot c.recall_desk.ensures c.args.plan.now.i r.0 r.1).anchors in
     omega (arith, few, items-long (flex_start r.0.slot) r.0.slot.blocks, ap length r.3.blocks)
 
 pub print_rows-requires-clause-few : goal.print_rows-requires-clause-few
@@ -49,8 +49,8 @@ print_rows-requires-clause-few g c =
     let r = c.requires.task in
     let i = c.args.plan.now.i in
     let ps = c.args.step.now.pages.now in
-    let few = owned-few c.spelled.ensures ps c.requires.step.shared (pages.Slot i) (SlotOf r.0.handle)
-    (seen-slot c.spelled.ensures i r.0 r.1) c.requires.step.all in
+    let few = owned-few c.recall_desk.ensures ps c.requires.step.shared (pages.Slot i) (SlotOf r.0.handle)
+    (seen-slot c.recall_desk.ensures i r.0 r.1) c.requires.step.all in
     omega (arith, few, ap (λ (z : Plot). length z.pages) r.3.plot)
 
 pub print_rows-requires-clause-pieces : goal.print_rows-requires-clause-pieces
@@ -59,14 +59,14 @@ print_rows-requires-clause-pieces g c =
     let x = scene_at d c.args.step.now in
     let r = c.requires.task in
     let i = c.args.plan.now.i in
-    let ends = slot-ends (2 ^ 30) x r.0.handle r.0.slot (task-slot c.spelled.ensures i r.0 r.1).heap.fits (omega
-    (arith, (task-length c.spelled.ensures i r.0 r.1).1)) in
+    let ends = slot-ends (2 ^ 30) x r.0.handle r.0.slot (task-slot c.recall_desk.ensures i r.0 r.1).heap.fits (omega
+    (arith, (task-length c.recall_desk.ensures i r.0 r.1).1)) in
     subst (AllByRecursion (EndsBy (2 ^ 30))) (sym (ap (λ (z : Plot). z.pieces) r.3.plot)) ends
 
 pub print_ticks-requires : goal.print_ticks-requires
 print_ticks-requires g c =
     let r = c.requires.task in
-    let small = anchors-small (flex_start r.0.slot) r.0.slot.blocks (task-slot c.spelled.ensures c.args.plan.now.i r.0 r.1).anchors in
+    let small = anchors-small (flex_start r.0.slot) r.0.slot.blocks (task-slot c.recall_desk.ensures c.args.plan.now.i r.0 r.1).anchors in
     subst (AllByRecursion (λ (b : BlockItem). b.anchor < 64)) (sym r.3.blocks) small
 
 pub returns : goal.returns
@@ -86,7 +86,7 @@ returns g c = λ t e.
     (text_then (g.P.Pen.offered c.print_rows.new.pen) _ _
     (offered_as _ (ap₂ ticks_text (c.row_y.ensures.value ∙ ap (λ z. row_y z 0) p.frame) p.blocks) c.print_ticks.ensures)
     (text_then (g.P.Pen.offered c.print_ticks.new.pen) _ _ (offered_as _ (parts-same x seen.handle p.frame p.blocks
-    ∙ arrow-same x f t (λ q. ap (λ h. task_at h d) (sym q) ∙ task-stands c.spelled.ensures i t e)) c.print_arrow_of.ensures)
+    ∙ arrow-same x f t (λ q. ap (λ h. task_at h d) (sym q) ∙ task-stands c.recall_desk.ensures i t e)) c.print_arrow_of.ensures)
     (text_last _ _ (offered_as _ (ap (λ o. band_text (Below (c.foot.result + 16)) (shown_cards (cards_from (card_of_task x o)
     (heap_start + first_place) t.slot.heap.segments))) e ∙ ap (λ n. cards_below (n + 16) (heap_cards x t)) (c.foot.ensures.value ∙ ap rows_foot p.frame))
     heap))))))

@@ -33,14 +33,14 @@ put_pages-requires g c =
     let r = c.requires.task in
     let i = c.args.plan.now.i in
     let ps = c.args.step.now.pages.now in
-    let few = owned-few c.spelled.ensures ps c.requires.step.shared (pages.Slot i) (SlotOf r.0.handle)
-    (seen-slot c.spelled.ensures i r.0 r.1) c.requires.step.all in
+    let few = owned-few c.recall_desk.ensures ps c.requires.step.shared (pages.Slot i) (SlotOf r.0.handle)
+    (seen-slot c.recall_desk.ensures i r.0 r.1) c.requires.step.all in
     omega (arith, few, ap (λ (z : Plot). length z.pages) r.3.plot)
 
 pub show_flex_cards-requires-clause-few : goal.show_flex_cards-requires-clause-few
 show_flex_cards-requires-clause-few g c =
     let r = c.requires.task in
-    let few = few-blocks r.0.slot.blocks (task-slot c.spelled.ensures c.args.plan.now.i r.0 r.1).anchors in
+    let few = few-blocks r.0.slot.blocks (task-slot c.recall_desk.ensures c.args.plan.now.i r.0 r.1).anchors in
     omega (arith, few, items-long (flex_start r.0.slot) r.0.slot.blocks, ap length r.3.blocks)
 
 pub returns : goal.returns

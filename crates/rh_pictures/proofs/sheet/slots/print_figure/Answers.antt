@@ -35,8 +35,8 @@ print_plan-requires-clause-task g c =
     let t = r.0 in
     let i = c.args.i in
     let ps = c.args.step.now.pages.now in
-    let is = owned c.spelled.ensures ps c.requires.step.shared (pages.Slot i) (SlotOf t.handle) c.pages_of-pages.result.now
-    (seen-slot c.spelled.ensures i t r.1) c.pages_of-pages.ensures in
+    let is = owned c.recall_desk.ensures ps c.requires.step.shared (pages.Slot i) (SlotOf t.handle) c.pages_of-pages.result.now
+    (seen-slot c.recall_desk.ensures i t r.1) c.pages_of-pages.ensures in
     let census = c.take_census-census.ensures t.slot.heap.segments (from-first t.slot.heap (ap (option_map (λ (u : Task). u.slot.heap)) r.1)) in
     let blocks = c.blocks-2.ensures t r.1 in
     let rows : c.rows_for.result ≡ rows_for x (SlotOf t.handle) = c.rows_for.ensures ∙ ap₂ (λ (found : List ℕ) h. min 1024 (max (length found) (count_of

@@ -11,7 +11,7 @@ use Rattle.rh_pictures.proofs.sheet.slots.print_lenses.Goals as goal
 pub overflow_cast-count : goal.overflow_cast-count
 overflow_cast-count g c =
     let r = c.requires.task in
-    let few = few-blocks r.0.slot.blocks (task-slot c.spelled.ensures c.args.plan.now.i r.0 r.1).anchors in
+    let few = few-blocks r.0.slot.blocks (task-slot c.recall_desk.ensures c.args.plan.now.i r.0 r.1).anchors in
     omega (arith, few, items-long (flex_start r.0.slot) r.0.slot.blocks, ap length r.3.blocks)
 
 pub print_lens_above-requires-clause-frame : goal.print_lens_above-requires-clause-frame
@@ -26,14 +26,14 @@ print_lens_above-requires-clause-within g c =
     let r = c.requires.task in
     let i = c.args.plan.now.i in
     let ps = c.args.step.now.pages.now in
-    let few = owned-few c.spelled.ensures ps c.requires.step.shared (pages.Slot i) (SlotOf r.0.handle)
-    (seen-slot c.spelled.ensures i r.0 r.1) c.requires.step.all in
+    let few = owned-few c.recall_desk.ensures ps c.requires.step.shared (pages.Slot i) (SlotOf r.0.handle)
+    (seen-slot c.recall_desk.ensures i r.0 r.1) c.requires.step.all in
     omega (
       arith,
       ap (λ
           (f : Frame). f.pages) r.3.frame,
       few,
-      owned-slot c.spelled.ensures ps c.requires.step.shared i r.0 r.1,
+      owned-slot c.recall_desk.ensures ps c.requires.step.shared i r.0 r.1,
       c.flex_end-high.ensures x r.0 r.3.plot,
     )
 

@@ -23,7 +23,7 @@ pub loop-number-preserved : goal.loop-number-preserved
 loop-number-preserved g c =
     let d = g.S.Sight.desk c.args.sight.now in
     let x = scene_at d c.args.step.now in
-    let low : c.loop-number.number < length d.areas = omega (arith, c.spelled.ensures.areas.six) in
+    let low : c.loop-number.number < length d.areas = omega (arith, c.recall_desk.ensures.areas.six) in
     left_less _ c.loop-number.invariant (panels-next g.A.Artist.area_text (fixed_panel x) c.loop-number.number d.areas (map (made_panel x) d.made) low)
     c.show_fixed.ensures
 
@@ -31,6 +31,6 @@ pub returns : goal.returns
 returns g c =
     let d = g.S.Sight.desk c.args.sight.now in
     let x = scene_at d c.args.step.now in
-    let past : length d.areas ≤ c.loop-number.number = omega (arith, c.spelled.ensures.areas.six) in
+    let past : length d.areas ≤ c.loop-number.number = omega (arith, c.recall_desk.ensures.areas.six) in
     left_last _ c.loop-number.invariant (offered_as _ (ap (λ ys. flat_map g.A.Artist.area_text (flat_map (fixed_panel x)
     (enumerate_from c.loop-number.number ys) ++ map (made_panel x) d.made)) (sym (drop_all c.loop-number.number d.areas past))) c.show_made.ensures)

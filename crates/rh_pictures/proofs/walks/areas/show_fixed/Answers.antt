@@ -23,10 +23,10 @@ note-same n m found kept told scrap long same is e =
 
 pub fixed_area-requires-clause-few : goal.fixed_area-requires-clause-few
 fixed_area-requires-clause-few g c =
-    let seen = seen-fixed c.spelled.ensures c.args.number c.requires.number in
-    let is = owned c.spelled.ensures c.args.step.now.pages.now c.requires.step.shared (pages.Fixed c.args.number) (AreaOf c.args.number)
+    let seen = seen-fixed c.recall_desk.ensures c.args.number c.requires.number in
+    let is = owned c.recall_desk.ensures c.args.step.now.pages.now c.requires.step.shared (pages.Fixed c.args.number) (AreaOf c.args.number)
     c.pages_of-pages.result.now seen c.pages_of-pages.ensures in
-    let few = owned-few c.spelled.ensures c.args.step.now.pages.now c.requires.step.shared (pages.Fixed c.args.number) (AreaOf c.args.number) seen
+    let few = owned-few c.recall_desk.ensures c.args.step.now.pages.now c.requires.step.shared (pages.Fixed c.args.number) (AreaOf c.args.number) seen
     c.requires.step.all in
     omega (arith, ap length is)
 
@@ -34,10 +34,10 @@ pub returns : goal.returns
 returns g c =
     let d = g.S.Sight.desk c.args.sight.now in
     let x = scene_at d c.args.step.now in
-    let seen = seen-fixed c.spelled.ensures c.args.number c.requires.number in
-    let is = owned c.spelled.ensures c.args.step.now.pages.now c.requires.step.shared (pages.Fixed c.args.number) (AreaOf c.args.number)
+    let seen = seen-fixed c.recall_desk.ensures c.args.number c.requires.number in
+    let is = owned c.recall_desk.ensures c.args.step.now.pages.now c.requires.step.shared (pages.Fixed c.args.number) (AreaOf c.args.number)
     c.pages_of-pages.result.now seen c.pages_of-pages.ensures in
-    let long = owned-fixed c.spelled.ensures c.args.step.now.pages.now c.requires.step.shared c.args.number c.fixed_pages.result c.requires.number
+    let long = owned-fixed c.recall_desk.ensures c.args.step.now.pages.now c.requires.step.shared c.args.number c.fixed_pages.result c.requires.number
     c.fixed_pages.ensures in
     let other : (c.args.number == 1) ≡ false = ne_eqb _ _ c.if-number-eq-MODULE_AREA.false in
     let count : c.fixed_pages.result ≡ slice_index d.areas c.args.number =

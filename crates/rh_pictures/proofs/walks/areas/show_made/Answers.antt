@@ -14,14 +14,14 @@ note-same most n found kept long is =
     ∙ ap (λ z. made_note n most (listed_pages n z)) is
 
 pub made_area-requires-clause-number : goal.made_area-requires-clause-number
-made_area-requires-clause-number g c = made-above c.spelled.ensures c.areas.i _ c.in-Some.ensures.some
+made_area-requires-clause-number g c = made-above c.recall_desk.ensures c.areas.i _ c.in-Some.ensures.some
 
 pub made_area-requires-clause-few : goal.made_area-requires-clause-few
 made_area-requires-clause-few g c =
-    let seen = seen-made c.spelled.ensures c.areas.i _ c.in-Some.ensures.some in
-    let is = owned c.spelled.ensures c.args.step.now.pages.now c.requires.shared (pages.Made c.areas.i) (AreaOf c.in-Some.area.number)
+    let seen = seen-made c.recall_desk.ensures c.areas.i _ c.in-Some.ensures.some in
+    let is = owned c.recall_desk.ensures c.args.step.now.pages.now c.requires.shared (pages.Made c.areas.i) (AreaOf c.in-Some.area.number)
     c.pages_of-pages.result.now seen c.pages_of-pages.ensures in
-    let few = owned-few c.spelled.ensures c.args.step.now.pages.now c.requires.shared (pages.Made c.areas.i) (AreaOf c.in-Some.area.number) seen
+    let few = owned-few c.recall_desk.ensures c.args.step.now.pages.now c.requires.shared (pages.Made c.areas.i) (AreaOf c.in-Some.area.number) seen
     c.requires.all in
     omega (arith, ap length is)
 
@@ -31,10 +31,10 @@ areas-preserved g c =
     let x = scene_at d c.args.step.now in
     let element = g.A.Artist.area_text in
     let m = c.in-Some.area in
-    let seen = seen-made c.spelled.ensures c.areas.i _ c.in-Some.ensures.some in
-    let is = owned c.spelled.ensures c.args.step.now.pages.now c.requires.shared (pages.Made c.areas.i) (AreaOf m.number)
+    let seen = seen-made c.recall_desk.ensures c.areas.i _ c.in-Some.ensures.some in
+    let is = owned c.recall_desk.ensures c.args.step.now.pages.now c.requires.shared (pages.Made c.areas.i) (AreaOf m.number)
     c.pages_of-pages.result.now seen c.pages_of-pages.ensures in
-    let long = owned-made c.spelled.ensures c.args.step.now.pages.now c.requires.shared c.areas.i _ c.in-Some.ensures.some in
+    let long = owned-made c.recall_desk.ensures c.args.step.now.pages.now c.requires.shared c.areas.i _ c.in-Some.ensures.some in
     left_less _ c.areas.invariant (text-some (λ (ms : List Made). flat_map element (map (made_panel x) ms)) (λ (u : Made). element (made_panel x u))
     (λ u rest. refl) d.made c.areas.i _ c.in-Some.ensures.some)
     (offered_as _ (ap (λ note. element (area_panel m.number note)) (note-same m.most m.pages c.pages_of-pages.result.now _ (ap length is ∙ long) is))

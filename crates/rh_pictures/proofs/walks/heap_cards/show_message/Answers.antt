@@ -27,7 +27,7 @@ returns g c = λ p found is.
     let d = g.S.Sight.desk c.args.sight.now in
     let x = scene_at d c.args.step.now in
     let place = c.chain_place-place.ensures ∙ (ap place_seen (c.place_of.ensures ∙ ap (λ ms. message_place ms c.args.message.now) c.requires.step.messages)
-    ∙ chain-is c.spelled.ensures p.to p.message.my_ref c.args.message.now is.to is.my_ref) in
+    ∙ chain-is c.recall_desk.ensures p.to p.message.my_ref c.args.message.now is.to is.my_ref) in
     offered_as _ (ap (λ z. g.A.CardArtist.card_text c.args.artist.now (c.args.at, z))
     (card-same _ p.message.my_ref _ (action_of p.message.body) _ p.code _ (task_name x.desk p.message.from) _ (task_name x.desk p.to) _ (chain_text x p) _
     (is_new_message x (Some p))

@@ -20,7 +20,7 @@ show_used-requires-in-None-clause-free g c =
     let at = a - 25165824 in
     let here : find (lies_in at) (message_items d) ≡ None = ap (find (lies_in at)) (sym c.requires.step.messages) ∙ (sym c.message_at.ensures ∙ c.in-None.is) in
     let T : Option MessageItem → Type 0 = λ z. Told at z (find (stands_in at) (waiting_on d ++ held_on d)) in
-    let free = block-free c.spelled.ensures at (told-none at (find (stands_in at) (waiting_on d ++ held_on d)) (subst T here (message-told at d))) in
+    let free = block-free c.recall_desk.ensures at (told-none at (find (stands_in at) (waiting_on d ++ held_on d)) (subst T here (message-told at d))) in
     let same : at ≡ at - 4 + 4 = omega (arith, q.at, ap heap_start_of c.in-Module.is) in
     let P : HeapOf → Type 0 = λ o. SeesFree o (a - heap_start_of o - 4) d in
     subst P (sym c.in-Module.is) (ap (λ z. post_is_message z d.post) (sym same) ∙ free)

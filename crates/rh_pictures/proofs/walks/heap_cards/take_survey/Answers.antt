@@ -21,7 +21,7 @@ surveyed-survey-requires-clause-few g c =
     let w = from-first there.heap there.is in
     let k = (c.places.invariant there.heap there.is).counted in
     let here = c.in-Some.ensures.value ∙ ap (λ xs. slice_get xs (length xs - 1)) c.deref.ensures.0 in
-    let s = stepped w k 0 c.in-Some.last.now (seen c.spelled.ensures b.heap there.heap there.is) here in
+    let s = stepped w k 0 c.in-Some.last.now (seen c.recall_desk.ensures b.heap there.heap there.is) here in
     omega (arith, s.few, ap length c.deref-in-Some.ensures.0)
 
 pub surveyed-survey-requires-clause-items : goal.surveyed-survey-requires-clause-items
@@ -40,7 +40,7 @@ place_behind-place-requires-clause-low g c =
     let w = from-first there.heap there.is in
     let k = (c.places.invariant there.heap there.is).counted in
     let here = c.in-Some.ensures.value ∙ ap (λ xs. slice_get xs (length xs - 1)) c.deref.ensures.0 in
-    let s = stepped w k 0 c.in-Some.last.now (seen c.spelled.ensures b.heap there.heap there.is) here in
+    let s = stepped w k 0 c.in-Some.last.now (seen c.recall_desk.ensures b.heap there.heap there.is) here in
     s.low
 
 pub place_behind-place-requires-clause-small : goal.place_behind-place-requires-clause-small
@@ -51,7 +51,7 @@ place_behind-place-requires-clause-small g c =
     let w = from-first there.heap there.is in
     let k = (c.places.invariant there.heap there.is).counted in
     let here = c.in-Some.ensures.value ∙ ap (λ xs. slice_get xs (length xs - 1)) c.deref.ensures.0 in
-    let s = stepped w k 0 c.in-Some.last.now (seen c.spelled.ensures b.heap there.heap there.is) here in
+    let s = stepped w k 0 c.in-Some.last.now (seen c.recall_desk.ensures b.heap there.heap there.is) here in
     omega (arith, s.small, start-small b.heap)
 
 pub segments-items-requires-in-Some : goal.segments-items-requires-in-Some
@@ -72,7 +72,7 @@ places-smaller g c =
     let w = from-first there.heap there.is in
     let k = (c.places.invariant there.heap there.is).counted in
     let here = c.in-Some.ensures.value ∙ ap (λ xs. slice_get xs (length xs - 1)) c.deref.ensures.0 in
-    let s = stepped w k c.place_behind-place.result c.in-Some.last.now (seen c.spelled.ensures b.heap there.heap there.is) here in
+    let s = stepped w k c.place_behind-place.result c.in-Some.last.now (seen c.recall_desk.ensures b.heap there.heap there.is) here in
     omega (arith, s.goes c.place_behind-place.ensures, s.within c.place_behind-place.ensures)
 
 pub places-preserved : goal.places-preserved

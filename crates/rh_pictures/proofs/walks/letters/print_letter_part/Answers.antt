@@ -8,14 +8,14 @@ use Rattle.rh_pictures.proofs.walks.letters.print_letter_part.Goals as goal
 pub returns-then-not-has_letterboxes : goal.returns-then-not-has_letterboxes
 returns-then-not-has_letterboxes g c =
     let bs = letterboxes (scene_at (g.S.Sight.desk c.args.sight.now) c.args.step.now) in
-    let none : is_some bs ≡ false = boxes-told c.spelled.ensures c.args.step.now.messages.now c.requires.step.messages
+    let none : is_some bs ≡ false = boxes-told c.recall_desk.ensures c.args.step.now.messages.now c.requires.step.messages
     ∙ (sym c.has_letterboxes.ensures ∙ c.if-not-has_letterboxes.true) in
     offered_as _ (ap shown_lines (sym (under-none (codes "Messages") letterbox_line bs none))) (offered_none _)
 
 pub returns : goal.returns
 returns g c =
     let bs = letterboxes (scene_at (g.S.Sight.desk c.args.sight.now) c.args.step.now) in
-    let some : is_some bs ≡ true = boxes-told c.spelled.ensures c.args.step.now.messages.now c.requires.step.messages
+    let some : is_some bs ≡ true = boxes-told c.recall_desk.ensures c.args.step.now.messages.now c.requires.step.messages
     ∙ (sym c.has_letterboxes.ensures ∙ c.if-not-has_letterboxes.false) in
     offered_as _ (ap shown_lines (sym (under-some (codes "Messages") letterbox_line bs some)))
     (lines_then _ (codes "Messages" ∷ []) (map letterbox_line bs) (offered_line {x = codes "Messages"} _ refl c.put_line.ensures)

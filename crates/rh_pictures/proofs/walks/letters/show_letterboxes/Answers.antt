@@ -11,7 +11,7 @@ tasks-init g c =
     let d = g.S.Sight.desk c.args.sight.now in
     let ms = c.args.step.now.messages.now in
     let element = g.A.Artist.letterbox_text in
-    left_from _ (ap (flat_map element) (boxes-are c.spelled.ensures ms c.requires.step.messages d.tasks) ∙ text-flat element (boxes ms) d.tasks)
+    left_from _ (ap (flat_map element) (boxes-are c.recall_desk.ensures ms c.requires.step.messages d.tasks) ∙ text-flat element (boxes ms) d.tasks)
 
 pub tasks-preserved : goal.tasks-preserved
 tasks-preserved g c =

@@ -9,7 +9,7 @@ returns-clause-few g c =
       arith,
       ap length c.free_of-free.ensures,
       c.requires.shared.free,
-      c.spelled.ensures.pool,
+      c.recall_desk.ensures.pool,
       length-take (length free - c.min-had.result)
           (drop c.min-had.result free),
       length-drop c.min-had.result free,

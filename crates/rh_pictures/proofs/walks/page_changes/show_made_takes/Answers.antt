@@ -12,7 +12,7 @@ show_area_takes-requires-clause-owner g c = ap (option_map (λ (m : Made). AreaO
 
 pub show_area_takes-requires-clause-count : goal.show_area_takes-requires-clause-count
 show_area_takes-requires-clause-count g c =
-    count-made c.spelled.ensures (pages.Made c.areas.i) (AreaOf c.in-Some.area.number) c.areas.i _ refl
+    count-made c.recall_desk.ensures (pages.Made c.areas.i) (AreaOf c.in-Some.area.number) c.areas.i _ refl
     (ap (option_map (λ (m : Made). AreaOf m.number)) c.in-Some.ensures.some) c.in-Some.ensures.some
 
 pub areas-preserved : goal.areas-preserved

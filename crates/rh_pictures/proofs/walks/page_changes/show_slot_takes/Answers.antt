@@ -12,18 +12,18 @@ pub slice_bounds-slot_takes-count : goal.slice_bounds-slot_takes-count
 slice_bounds-slot_takes-count g c =
     let r = c.requires.task in
     let ps = c.args.step.now.pages.now in
-    let is = owned c.spelled.ensures ps c.requires.step.shared (pages.Slot c.args.i) (SlotOf r.0.handle) c.pages_of-pages.result.now
-    (seen-slot c.spelled.ensures c.args.i r.0 r.1) c.pages_of-pages.ensures in
-    omega (arith, ap length is, owned-slot c.spelled.ensures ps c.requires.step.shared c.args.i r.0 r.1, r.2.pages, c.if-had-task.false)
+    let is = owned c.recall_desk.ensures ps c.requires.step.shared (pages.Slot c.args.i) (SlotOf r.0.handle) c.pages_of-pages.result.now
+    (seen-slot c.recall_desk.ensures c.args.i r.0 r.1) c.pages_of-pages.ensures in
+    omega (arith, ap length is, owned-slot c.recall_desk.ensures ps c.requires.step.shared c.args.i r.0 r.1, r.2.pages, c.if-had-task.false)
 
 pub slice_bounds-slot_takes-start : goal.slice_bounds-slot_takes-start
 slice_bounds-slot_takes-start g c =
     let r = c.requires.task in
     let ps = c.args.step.now.pages.now in
-    let is = owned c.spelled.ensures ps c.requires.step.shared (pages.Slot c.args.i) (SlotOf r.0.handle) c.pages_of-pages.result.now
-    (seen-slot c.spelled.ensures c.args.i r.0 r.1) c.pages_of-pages.ensures in
+    let is = owned c.recall_desk.ensures ps c.requires.step.shared (pages.Slot c.args.i) (SlotOf r.0.handle) c.pages_of-pages.result.now
+    (seen-slot c.recall_desk.ensures c.args.i r.0 r.1) c.pages_of-pages.ensures in
     let few : c.count-had.result ≤ length c.pages_of-pages.result.now =
-    omega (arith, ap length is, owned-slot c.spelled.ensures ps c.requires.step.shared c.args.i r.0 r.1, r.2.pages, c.if-had-task.false) in
+    omega (arith, ap length is, owned-slot c.recall_desk.ensures ps c.requires.step.shared c.args.i r.0 r.1, r.2.pages, c.if-had-task.false) in
     search rules
 
 pub slot_takes-requires : goal.slot_takes-requires
@@ -31,9 +31,9 @@ slot_takes-requires g c =
     let r = c.requires.task in
     let ps = c.args.step.now.pages.now in
     let found = c.pages_of-pages.result.now in
-    let seen = seen-slot c.spelled.ensures c.args.i r.0 r.1 in
-    let is = owned c.spelled.ensures ps c.requires.step.shared (pages.Slot c.args.i) (SlotOf r.0.handle) found seen c.pages_of-pages.ensures in
-    let few = owned-few c.spelled.ensures ps c.requires.step.shared (pages.Slot c.args.i) (SlotOf r.0.handle) seen c.requires.step.all in
+    let seen = seen-slot c.recall_desk.ensures c.args.i r.0 r.1 in
+    let is = owned c.recall_desk.ensures ps c.requires.step.shared (pages.Slot c.args.i) (SlotOf r.0.handle) found seen c.pages_of-pages.ensures in
+    let few = owned-few c.recall_desk.ensures ps c.requires.step.shared (pages.Slot c.args.i) (SlotOf r.0.handle) seen c.requires.step.all in
     omega (arith, ap length is, length-take (length found - c.count-had.result) (drop c.count-had.result found), length-drop c.count-had.result found)
 
 pub returns : goal.returns
@@ -43,13 +43,13 @@ returns g c = λ t e.
     let r = c.requires.task in
     let seen = seen-same (IsTaskSeen c.args.task.now) d.tasks c.args.i r.0 t r.1 e r.2 in
     let found = c.pages_of-pages.result.now in
-    let is = owned c.spelled.ensures c.args.step.now.pages.now c.requires.step.shared (pages.Slot c.args.i) (SlotOf t.handle) found
-    (seen-slot c.spelled.ensures c.args.i t e) c.pages_of-pages.ensures in
+    let is = owned c.recall_desk.ensures c.args.step.now.pages.now c.requires.step.shared (pages.Slot c.args.i) (SlotOf t.handle) found
+    (seen-slot c.recall_desk.ensures c.args.i t e) c.pages_of-pages.ensures in
     let had : c.count-had.result ≡ count_of (SlotOf t.handle) x.before.holdings =
     c.count-had.ensures ∙ ap (λ h. count_of (SlotOf h) x.before.holdings) seen.handle in
     let low : count_of (SlotOf t.handle) x.before.holdings < task_pages t = omega (arith, had, seen.pages, c.if-had-task.false) in
     let name : c.args.task.now.name.now ≡ name_or t.handle (task_at t.handle d) =
-    seen.name ∙ ap (name_or t.handle) (sym (task-stands c.spelled.ensures c.args.i t e)) in
+    seen.name ∙ ap (name_or t.handle) (sym (task-stands c.recall_desk.ensures c.args.i t e)) in
     let element = g.A.Artist.change_text in
     offered_as _ (ap element (c.slot_takes.ensures.value
     ∙ ap₂ (λ n z. taken_line (codes "Slot " ++ n) z) name (take_rest found c.count-had.result ∙ ap₂ drop had is))

@@ -7,7 +7,7 @@ pub push_free-requires : goal.push_free-requires
 push_free-requires g c =
     let store = c.store-store.result.now in
     let world = c.args.self.now.world in
-    let is = c.spelled.ensures in
+    let is = c.recall_spelling.ensures in
     let shares = g.met.S.Sited.shared store in
     let fits = free-fits _ _ _ shares _ world c.store-store.ensures is.spelled is.desk in
     record {
@@ -24,7 +24,7 @@ pub push_area-requires : goal.push_area-requires
 push_area-requires g c =
     let store = c.store-store.result.now in
     let world = c.args.self.now.world in
-    let is = c.spelled.ensures in
+    let is = c.recall_spelling.ensures in
     let shares = g.met.S.Sited.shared store in
     let stands = same-areas (g.S.Words.memory store) world _ _ c.as_slice-area-items.ensures.value c.store-store.ensures in
     let at = c.loop-area in
@@ -38,7 +38,7 @@ pub loop-area-preserved : goal.loop-area-preserved
 loop-area-preserved g c =
     let store = c.store-store.result.now in
     let world = c.args.self.now.world in
-    let is = c.spelled.ensures in
+    let is = c.recall_spelling.ensures in
     let shares = g.met.S.Sited.shared store in
     let stands = same-areas (g.S.Words.memory store) world _ _ c.as_slice-area-items.ensures.value c.store-store.ensures in
     let at = c.loop-area in
@@ -48,7 +48,7 @@ pub returns : goal.returns
 returns g c =
     let store = c.store-store.result.now in
     let world = c.args.self.now.world in
-    let is = c.spelled.ensures in
+    let is = c.recall_spelling.ensures in
     let shares = g.met.S.Sited.shared store in
     let stands = same-areas (g.S.Words.memory store) world _ _ c.as_slice-area-items.ensures.value c.store-store.ensures in
     let at = c.loop-area in

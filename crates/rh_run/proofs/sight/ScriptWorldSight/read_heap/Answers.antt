@@ -11,7 +11,7 @@ block_address-address-requires g c =
     let wanted = c.requires.block in
     let room =
     block-room _ c.args.place wanted.0 (in-heap d c.args.heap c.in-Task.i t.0 c.args.place wanted.0 c.in-Task.is t.1 wanted.1)
-    (task-seen c.spelled.ensures.desk c.in-Task.i t.0 t.1) in
+    (task-seen c.recall_spelling.ensures.desk c.in-Task.i t.0 t.1) in
     omega arith
 
 pub unwrap-requires : goal.unwrap-requires
@@ -22,14 +22,14 @@ unwrap-requires g c =
     let here = in-heap d c.args.heap c.in-Task.i t.0 c.args.place wanted.0 c.in-Task.is t.1 wanted.1 in
     rw (as-granted _ _ _ _ c.read_slot.ensures
     (heap-there d _ t.0 c.args.place _ (length c.args.to.now) wanted.0 (c.in-Some.ensures.live ∙ t.1)
-    (task-seen c.spelled.ensures.desk c.in-Task.i t.0 t.1) here wanted.2 c.block_address-address.ensures)).0 refl
+    (task-seen c.recall_spelling.ensures.desk c.in-Task.i t.0 t.1) here wanted.2 c.block_address-address.ensures)).0 refl
 
 pub returns-in-Some : goal.returns-in-Some
 returns-in-Some g c = λ bytes has.
     let d = c.args.self.now.world.desk in
     let t = there c.in-Some.task _ c.in-Some.ensures.task in
     let wanted = c.requires.block in
-    let is = task-seen c.spelled.ensures.desk c.in-Task.i t.0 t.1 in
+    let is = task-seen c.recall_spelling.ensures.desk c.in-Task.i t.0 t.1 in
     let first = in-heap d c.args.heap c.in-Task.i t.0 c.args.place wanted.0 c.in-Task.is t.1 wanted.1 in
     let here = in-heap d c.args.heap c.in-Task.i t.0 c.args.place bytes c.in-Task.is t.1 has in
     let few : length c.args.to.now ≤ length bytes = omega (arith, ap length (block-same _ c.args.place wanted.0 bytes is first here), wanted.2) in
@@ -41,7 +41,7 @@ block_address-address-requires-in-Module g c =
     let d = c.args.self.now.world.desk in
     let wanted = c.requires.block in
     let room =
-    block-room _ c.args.place wanted.0 (in-module d c.args.heap c.args.place wanted.0 c.in-Module.is wanted.1) (module-seen c.spelled.ensures.desk) in
+    block-room _ c.args.place wanted.0 (in-module d c.args.heap c.args.place wanted.0 c.in-Module.is wanted.1) (module-seen c.recall_spelling.ensures.desk) in
     omega arith
 
 pub unwrap-requires-in-Module : goal.unwrap-requires-in-Module
@@ -52,13 +52,13 @@ unwrap-requires-in-Module g c =
     let free = subst (λ (h : HeapOf). SeesFree h c.args.place d) c.in-Module.is c.requires.free in
     rw (as-granted _ _ _ _ c.read_module.ensures
     (module-there d c.args.place _ (length c.args.to.now) wanted.0
-    (module-seen c.spelled.ensures.desk) here free wanted.2 c.block_address-address-in-Module.ensures)).0 refl
+    (module-seen c.recall_spelling.ensures.desk) here free wanted.2 c.block_address-address-in-Module.ensures)).0 refl
 
 pub returns-in-Module : goal.returns-in-Module
 returns-in-Module g c = λ bytes has.
     let d = c.args.self.now.world.desk in
     let wanted = c.requires.block in
-    let is = module-seen c.spelled.ensures.desk in
+    let is = module-seen c.recall_spelling.ensures.desk in
     let first = in-module d c.args.heap c.args.place wanted.0 c.in-Module.is wanted.1 in
     let here = in-module d c.args.heap c.args.place bytes c.in-Module.is has in
     let few : length c.args.to.now ≤ length bytes = omega (arith, ap length (block-same _ c.args.place wanted.0 bytes is first here), wanted.2) in

@@ -26,7 +26,7 @@ returns-in-Some g c =
     let is : heap_seen (heap_of.Task c.in-Task.i) d ≡ Some t.0.slot.heap = ap (option_map (λ (x : Task). x.slot.heap)) t.1 in
     let here =
     items-from heap_start t.0.slot.heap c.args.place c.unwrap.result.items
-    (seen c.spelled.ensures.desk (heap_of.Task c.in-Task.i) t.0.slot.heap is).is.tidy told in
+    (seen c.recall_spelling.ensures.desk (heap_of.Task c.in-Task.i) t.0.slot.heap is).is.tidy told in
     rw c.in-Task.is (rw is here)
 
 pub returns-in-Module : goal.returns-in-Module
@@ -34,5 +34,5 @@ returns-in-Module g c =
     let d = c.args.self.now.world.desk in
     let here =
     items-from module_start d.post.heap c.args.place c.module_segments.result.items
-    (seen c.spelled.ensures.desk heap_of.Module d.post.heap refl).is.tidy c.module_segments.ensures in
+    (seen c.recall_spelling.ensures.desk heap_of.Module d.post.heap refl).is.tidy c.module_segments.ensures in
     rw c.in-Module.is here

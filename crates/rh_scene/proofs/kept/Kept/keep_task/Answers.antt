@@ -23,6 +23,6 @@ returns-in-Some g c = λ t e.
     let had = c.self.view_is ∙ c.requires.before in
     with-task (g.S.Sight.desk c.args.sight.now) t _ handle (c.blocks-in-Some.ensures t e)
     (c.held_ref-self-inside.ensures ∙ (ap (held_ref c.in-Some.task.handle) c.requires.messages
-    ∙ (held-is (g.S.Sight.desk c.args.sight.now) c.spelled.ensures c.in-Some.task.handle
+    ∙ (held-is (g.S.Sight.desk c.args.sight.now) c.recall_desk.ensures c.in-Some.task.handle
     ∙ ap (λ h. ref_of (held_by h (g.S.Sight.desk c.args.sight.now).post.seats)) handle)))
     (ap (λ (x : Before). x.holdings) had) (ap (λ (x : Before). x.free) had) (ap (λ (x : Before). x.next_ref) had)

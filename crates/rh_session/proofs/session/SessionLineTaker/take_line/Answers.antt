@@ -1,6 +1,6 @@
 use Rattle.std.proofs.Common.{[], append-nil, refl, sym}
 use Rattle.rh_defs.specs.Text.{fault_text}
-use Rattle.rh_feed.proofs.FeedLemmas.{gives_so}
+use Rattle.rh_session.proofs.FeedLemmas.{gives_so}
 use Rattle.rh_session.proofs.RunLemmas.{answered_by, line_answered, or_false, or_true}
 use Rattle.rh_session.proofs.session.SessionLineTaker.take_line.Goals as goal
 

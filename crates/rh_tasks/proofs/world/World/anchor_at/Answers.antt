@@ -15,4 +15,4 @@ returns-clause-is g c = rw (c.anchor_in.ensures, c.deref.ensures.0) (sym (begins
 
 pub returns-clause-low : goal.returns-clause-low
 returns-clause-low g c =
-    rw (c.anchor_in.ensures, c.deref.ensures.0) (anchor-low _ c.args.name.now c.args.address _ c.spelled.ensures.desk c.in_ok-blocks_of.ensures.ok)
+    rw (c.anchor_in.ensures, c.deref.ensures.0) (anchor-low _ c.args.name.now c.args.address _ c.recall_spelling.ensures.desk c.in_ok-blocks_of.ensures.ok)

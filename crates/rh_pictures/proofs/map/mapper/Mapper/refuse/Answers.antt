@@ -12,7 +12,7 @@ returns-then-and_not-clause-told g c =
     fault-from (hidden-fault desk m b c.args.line.now (g.P.Pen.offered c.args.pen.now) c.begin_step-wanted.result c.begin_step-wanted.ensures.wanted
     c.begin_step-wanted.ensures.next
     c.args.fault.now _ _ (sym c.and_not.ensures ∙ c.if-and_not.true) refl refl refl refl
-    (ap (λ (z : Mapper g.row.D.Denot). z.has_bad_line) c.begin_step-wanted.ensures.next) (is_shared (desk b.drawn) c.spelled.ensures))
+    (ap (λ (z : Mapper g.row.D.Denot). z.has_bad_line) c.begin_step-wanted.ensures.next) (is_shared (desk b.drawn) c.recall_desk.ensures))
 
 pub returns : goal.returns
 returns g c =

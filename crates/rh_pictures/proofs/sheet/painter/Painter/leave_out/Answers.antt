@@ -17,5 +17,5 @@ returns-clause-left g c = λ before is-sender o line command r reply.
       progress = c.begin_step.ensures.next;
       notes = λ s. c.begin_step.ensures.notes s before (marks_of (desk m.drawn) before command r) is-sender;
     } in
-    took-left desk m b n o line h is c.requires.hidden _ (is_shared (desk b.drawn) c.spelled.ensures)
+    took-left desk m b n o line h is c.requires.hidden _ (is_shared (desk b.drawn) c.recall_desk.ensures)
     (ap (λ p. record b { progress = p }) c.leave_out.ensures)

@@ -23,7 +23,7 @@ returns-then-not-shows-clause-drew g c =
     sym (c.shows.ensures.value ∙ ap₂ (λ (p : PaintStand) w. not (length (words_of line) == 0) &&
     (nat_lt p.shown MOST_STEPS && (not m.marked || w))) progress w-is)
     ∙ c.if-not-shows.true in
-    skip-hidden desk m n (g.P.Pen.offered c.args.pen.now) line refl refl refl refl progress test _ (is_shared (desk m.drawn) c.spelled.ensures)
+    skip-hidden desk m n (g.P.Pen.offered c.args.pen.now) line refl refl refl refl progress test _ (is_shared (desk m.drawn) c.recall_desk.ensures)
 
 pub returns-clause-drew : goal.returns-clause-drew
 returns-clause-drew g c =
@@ -40,5 +40,5 @@ returns-clause-drew g c =
     ∙ c.if-not-shows.false in
     let opening-is = ap (λ (p : PaintStand). if p.opened then [] else step_open (p.shown + 1)) progress in
     skip-shown desk m n (g.P.Pen.offered c.args.pen.now) line refl refl refl refl
-    (c.open.ensures ∙ ap (λ (p : PaintStand). record p { opened = true }) progress) test _ (is_shared (desk m.drawn) c.spelled.ensures)
+    (c.open.ensures ∙ ap (λ (p : PaintStand). record p { opened = true }) progress) test _ (is_shared (desk m.drawn) c.recall_desk.ensures)
     (text_then _ _ _ (offered_as _ opening-is c.open_step.ensures) c.print_remark.ensures)

@@ -1,3 +1,0 @@
-mod FreshLaws
-mod PrintLaws
-mod SaidLaws

@@ -1,0 +1,37 @@
+-- What lent bytes have of a text that was printed into them.
+use Rattle.std.proofs.Common.{◌≡◌, ℕ, ◌≤◌, List, [], ◌++◌, length, Some, None, Result, Ok, Err, sym, ap, ◌∙◌, arith, take_all}
+use Rattle.std.specs.Prelude.{nat_le, drop, take, true, if◌then◌else◌}
+use borrow.Author.Tests.{tests}
+use Rattle.rh_lines.proofs.TextLemmas.{writes_all, wrote}
+use Rattle.rh_lines.specs.Flow.{Puts}
+use Rattle.rh_lines.specs.WholeText.{before_of, whole_bytes, filled, output_of, whole_text}
+use Rattle.rh_lines.specs.declared.whole_text.WholeText.{WholeText}
+use Rattle.vf_desk.specs.Console.{Prints}
+
+-- all of a text was written into the bytes that were lent
+pub record Printed (old new : WholeText) (text : List ℕ) : Type 0 where
+  pub name : (whole_bytes new).ghost_name ≡ (whole_bytes old).ghost_name
+  pub before : before_of new ≡ before_of old
+  pub text_is : whole_text new ≡ text
+
+-- whatever printing it answers, as no write fails
+pub printed : {E : Type 0} (old new : WholeText) (r : Result Unit E) (text : List ℕ) → whole_text old ≡ [] → Puts (output_of old) (output_of new) r text
+    → Printed old new text
+printed old new (Ok u) text none puts =
+    let w = wrote puts.ok in
+    record { name = w.same_reference; before = w.before; text_is = w.text ∙ ap (λ l. l ++ text) none }
+printed old new (Err e) text none puts = absurd (writes_all old new puts.err)
+
+-- a text in bytes that have room for it
+pub filled-whole : (text old : List ℕ) → length text ≤ length old → filled text old ≡ text ++ drop (length text) old
+filled-whole text old fit = ap (λ l. l ++ drop (length text) old) (take_all (length old) text fit)
+
+-- what is answered of a text that has room
+pub prints-some : {text lent now bytes : List ℕ} {n : ℕ} → length text ≤ length lent → bytes ≡ text ++ drop (length text) lent
+    → now ≡ bytes → n ≡ length text → Prints text lent now (Some n)
+prints-some {text} {lent} {now} {bytes} {n} fit are is told =
+    let low : nat_le (length text) (length lent) ≡ true = grind (arith, tests) in
+    record {
+      bytes = is ∙ are ∙ sym (ap (λ b. if b then text ++ drop (length text) lent else lent) low);
+      told = ap Some told ∙ sym (ap (λ b. if b then Some (length text) else None) low);
+    }

@@ -1,0 +1,64 @@
+-- Texts of what lines are answered, over desks that a world may be seen as.
+use Rattle.std.proofs.Common.{◌≡◌, ℕ, List, refl, sym, ap, subst, ◌∙◌}
+use Rattle.std.specs.Prelude.{true, Option, Some, None, Ok, Err}
+use Rattle.rh_defs.specs.declared.command.Command.{Command}
+use Rattle.rh_defs.specs.declared.command.Command.TheVariants as command
+use Rattle.rh_defs.specs.declared.fault.LineFault.{LineFault}
+use Rattle.rh_defs.specs.declared.question.Question.{Question}
+use Rattle.rh_defs.specs.declared.reply.Reply.{Reply}
+use Rattle.rh_defs.specs.Desk.{Desk}
+use Rattle.rh_defs.specs.Line.{Meaning, line_means}
+use Rattle.rh_defs.specs.Order.{IsReordered}
+use Rattle.rh_defs.specs.Range.{can_be_asked}
+use Rattle.rh_defs.specs.Script.{line_desk, line_text, meaning_desk, meaning_text}
+use Rattle.rh_defs.specs.Commands.{step}
+use Rattle.rh_defs.proofs.QuestionLaws.{asked-stays, one-line, question-text}
+use Rattle.rh_tasks.specs.Answer.{StepsTo}
+use Rattle.vf_desk.specs.Said.{said_text}
+use Rattle.vf_desk.specs.declared.said.Said.{Said}
+use Rattle.vf_desk.specs.declared.said.Said.TheVariants as said
+
+-- what a line of this meaning leaves of a desk and of what is kept: another desk that it may be seen as, and the text
+pub record Answers (meaning : Meaning (Option Command)) (old new : Desk) (kept : Said) : Type 0 where
+  pub desk : (d : Desk) → IsReordered d old → IsReordered (meaning_desk d meaning) new
+  pub text : (d : Desk) → IsReordered d old → said_text (meaning_desk d meaning) kept ≡ meaning_text d meaning
+
+pub answers-nothing : (old : Desk) → Answers (Ok None) old old said.Nothing
+answers-nothing old = record { desk = λ d seen. seen; text = λ d seen. refl }
+
+pub answers-fault : (old : Desk) (fault : LineFault) → Answers (Err fault) old old (said.Fault fault)
+answers-fault old fault = record { desk = λ d seen. seen; text = λ d seen. refl }
+
+-- a question leaves the desk, and its text is that of its answer
+pub answers-question : (old : Desk) (q : Question) → can_be_asked q ≡ true
+    → Answers (Ok (Some (command.Ask q))) old old (said.Told q)
+answers-question old q ranged = record {
+  desk = λ d seen. subst (λ (e : Desk). IsReordered e old) (sym (asked-stays d q)) seen;
+  text = λ d seen. ap (λ (e : Desk). said_text e (said.Told q)) (asked-stays d q) ∙ sym (question-text d q ranged);
+}
+
+-- any other command is answered in one line
+pub answers-command : (old new : Desk) (c : Command) (r : Reply) → ((q : Question) → c ≡ command.Ask q → ⊥)
+    → StepsTo c old new r → Answers (Ok (Some c)) old new (said.Reply r)
+answers-command old new c r other steps = record {
+  desk = λ d seen. (steps d seen).1;
+  text = λ d seen.
+      ap (λ (s : Reply). said_text (step d c).0 (said.Reply s)) (sym (steps d seen).0) ∙ sym (one-line (step d c).0 c (step d c).1 other);
+}
+
+-- the same of what is equal
+pub answers-is : {r m : Meaning (Option Command)} {old new new2 : Desk} {kept kept2 : Said} → r ≡ m → new ≡ new2 → kept ≡ kept2
+    → Answers m old new2 kept2 → Answers r old new kept
+answers-is {r} {m} {old} {new} {new2} {kept} {kept2} means desks said answers =
+    subst (λ x. Answers x old new kept) (sym means)
+    (subst (λ x. Answers m old x kept) (sym desks) (subst (λ x. Answers m old new2 x) (sym said) answers))
+
+-- of a line that means this
+pub line-desk : (line : List ℕ) (meaning : Meaning (Option Command)) (old new : Desk) (kept : Said) → meaning ≡ line_means line
+    → Answers meaning old new kept → (d : Desk) → IsReordered d old → IsReordered (line_desk d line) new
+line-desk line meaning old new kept means answers d seen = subst (λ m. IsReordered (meaning_desk d m) new) means (answers.desk d seen)
+
+pub line-said : (line : List ℕ) (meaning : Meaning (Option Command)) (old new : Desk) (kept : Said) → meaning ≡ line_means line
+    → Answers meaning old new kept → (d : Desk) → IsReordered d old → said_text (line_desk d line) kept ≡ line_text d line
+line-said line meaning old new kept means answers d seen =
+    subst (λ m. said_text (meaning_desk d m) kept ≡ meaning_text d m) means (answers.text d seen)

@@ -1,0 +1,44 @@
+//! What a line is answered, and its text.
+ghost use Rattle.rh_defs.specs.Desk.{Desk};
+ghost use Rattle.rh_defs.specs.Order.{IsReordered};
+ghost use Rattle.rh_lines.specs.Flow.{Puts};
+ghost use Rattle.vf_desk.specs.Said.{said_text};
+
+use rh_defs::{LineFault, Question, Reply};
+use rh_lines::{Sink, WriteFailed, print_fault, print_first_line};
+use rh_script::print_answer;
+use rh_store::Store;
+use rh_tasks::{NamedFiles, World};
+
+/// What a line was answered. It takes no memory: the text of a long list is looked up when it is wanted.
+#[derive(Drop)]
+pub enum Said {
+    /// Nothing: the line has no command, or there was no line yet.
+    Nothing,
+    /// What is wrong with the line.
+    Fault(LineFault),
+    /// The reply to a command.
+    Reply(Reply),
+    /// What the desk answers to this question.
+    Told(Question),
+}
+
+impl Said {
+    /// Writes the text of it over the desk after the line. Fails only where the writer failed or took none of what it
+    /// was offered; a front of the text is then written.
+    pub fn print<S: Store, F: NamedFiles, W: Sink>(
+        &self,
+        world: &World<S, F>,
+        writer: &mut W,
+    ) -> Result<(), WriteFailed>
+        ensures { (d : Desk) → IsReordered d world.now.desk → Puts (W.output writer.old) (W.output writer.new) result
+            (said_text d self.now) }
+    {
+        match self {
+            Said::Nothing => Ok(()),
+            Said::Fault(fault) => print_fault(fault, writer),
+            Said::Reply(reply) => print_first_line(reply, writer),
+            Said::Told(question) => print_answer(world, question, writer),
+        }
+    }
+}
