@@ -79,37 +79,29 @@ load d name k file = do
   s ← slot_put k 0 entry.1 p.0
   Ok (with_slot t.handle s d, reply.Block p.1)
 
--- bytes written into a block
-unfoldable pub put : Desk → List ℕ → ℕ → ℕ → List ℕ → Granted Answer
-put d name k offset bytes = do
+-- a call on the slot of a task, whose block at the anchor isn't busy
+abbrev pub on_idle_block : Desk → List ℕ → ℕ → (Slot → Granted Slot) → Granted Answer
+on_idle_block d name k call = do
   t ← named name d
   _ ← idle_block k t
-  s ← slot_put k offset bytes t.slot
+  s ← call t.slot
   Ok (with_slot t.handle s d, reply.Done)
+
+-- bytes written into a block
+unfoldable pub put : Desk → List ℕ → ℕ → ℕ → List ℕ → Granted Answer
+put d name k offset bytes = on_idle_block d name k (slot_put k offset bytes)
 
 -- a block away
 unfoldable pub free : Desk → List ℕ → ℕ → Granted Answer
-free d name k = do
-  t ← named name d
-  _ ← idle_block k t
-  s ← slot_free k t.slot
-  Ok (with_slot t.handle s d, reply.Done)
+free d name k = on_idle_block d name k (slot_free k)
 
 -- a block cut, or longer by zeros
 unfoldable pub extend : Desk → List ℕ → ℕ → ℕ → Granted Answer
-extend d name k n = do
-  t ← named name d
-  _ ← idle_block k t
-  s ← slot_extend (free_pages d) k n t.slot
-  Ok (with_slot t.handle s d, reply.Done)
+extend d name k n = on_idle_block d name k (slot_extend (free_pages d) k n)
 
 -- zeros put into a block, or bytes taken out
 unfoldable pub mid : Desk → List ℕ → ℕ → ℕ → ℤ → Granted Answer
-mid d name k offset by = do
-  t ← named name d
-  _ ← idle_block k t
-  s ← slot_mid (free_pages d) k offset by t.slot
-  Ok (with_slot t.handle s d, reply.Done)
+mid d name k offset by = on_idle_block d name k (slot_mid (free_pages d) k offset by)
 
 -- ---- the C heap
 

@@ -4,11 +4,7 @@
 use Rattle.std.specs.Prelude.{ℕ, ◌+◌, ◌*◌, ◌-◌, ℤ, pos, negsuc, Bool, ◌&&◌, nat_le, nat_lt, slice_index, List, length, fold}
 use Rattle.std.specs.List.{list_all}
 use Rattle.std.specs.Char.{is_ascii_alphabetic, is_ascii_alphanumeric, is_ascii_digit}
-use Rattle.rh_defs.specs.declared.sizes.TheConstants.{ANCHORS, FIRST_MADE, GREATEST_NUMBER, LAST_AREA, LONGEST_BUFFER, LONGEST_LEAF, LONGEST_NAME, MAX_PAGES}
-
--- the greatest number of a line
-abbrev pub greatest : ℕ
-greatest = GREATEST_NUMBER
+use Rattle.rh_defs.specs.declared.sizes.TheConstants.{ANCHORS, FIRST_MADE, GREATEST_NUMBER, LAST_AREA, LONGEST_LEAF, LONGEST_NAME, MAX_PAGES}
 
 -- an ASCII letter, and then up to 11 ASCII letters or digits
 abbrev pub is_name : List ℕ → Bool
@@ -22,16 +18,12 @@ is_anchor k = nat_lt k ANCHORS
 
 -- a size or an offset of a line
 abbrev pub is_number : ℕ → Bool
-is_number n = nat_le n greatest
+is_number n = nat_le n GREATEST_NUMBER
 
 -- a signed amount of a line
 abbrev pub is_delta : ℤ → Bool
-is_delta (pos n) = nat_le n greatest
-is_delta (negsuc n) = nat_lt n greatest
-
--- the size of the longest receive buffer
-abbrev pub longest_buffer : ℕ
-longest_buffer = LONGEST_BUFFER
+is_delta (pos n) = nat_le n GREATEST_NUMBER
+is_delta (negsuc n) = nat_lt n GREATEST_NUMBER
 
 -- a byte of a leafname
 abbrev pub is_graphic : ℕ → Bool
@@ -44,10 +36,6 @@ is_leaf leaf = nat_le 1 (length leaf) && nat_le (length leaf) LONGEST_LEAF && li
 -- the last ref that a message can have
 abbrev pub last_ref : ℕ
 last_ref = 4294967295
-
--- refs, which are ids of transfers too, count from 1 on
-abbrev pub is_ref : ℕ → Bool
-is_ref ref = nat_le 1 ref
 
 -- the number of the first made area, and that of the last one
 abbrev pub first_made : ℕ

@@ -9,7 +9,8 @@ use Rattle.rh_defs.specs.declared.question.Question.{Question}
 use Rattle.rh_defs.specs.declared.question.Question.TheVariants.{Show, Blocks, Heap, Status, Areas}
 use Rattle.rh_defs.specs.declared.command.Manner.{Manner}
 use Rattle.rh_defs.specs.declared.command.Manner.TheVariants.{Plain, Deaf, File}
-use Rattle.rh_defs.specs.Forms.{greatest, longest_buffer, first_made, last_made, most_pages}
+use Rattle.rh_defs.specs.Forms.{first_made, last_made, most_pages}
+use Rattle.rh_defs.specs.declared.sizes.TheConstants.{GREATEST_NUMBER, LONGEST_BUFFER}
 use Rattle.rh_defs.specs.Slot.{anchor_count}
 
 -- the form of a word: a name, a leafname, a decimal number from low to high, the ref of a message, a number that may
@@ -78,7 +79,7 @@ abbrev pub Anchor : Form
 Anchor = Number 0 (anchor_count - 1)
 
 abbrev pub Size : Form
-Size = Number 0 greatest
+Size = Number 0 GREATEST_NUMBER
 
 -- the manner of a task that the last word may give, and back
 abbrev pub manner_of : Option Bool → Manner
@@ -98,9 +99,9 @@ cancel_of name false id = CancelOut name id
 
 -- a new task, and a cancel either way, of which the words spell more than the parts of one command
 abbrev pub task_spelled :
-    Values (Name ∷ Number 1 longest_buffer ∷ Maybe (Choice (codes "deaf") (codes "file")) ∷ []) → Spelling
+    Values (Name ∷ Number 1 LONGEST_BUFFER ∷ Maybe (Choice (codes "deaf") (codes "file")) ∷ []) → Spelling
 task_spelled =
-    spelled (codes "task") (Name ∷ Number 1 longest_buffer ∷ Maybe (Choice (codes "deaf") (codes "file")) ∷ [])
+    spelled (codes "task") (Name ∷ Number 1 LONGEST_BUFFER ∷ Maybe (Choice (codes "deaf") (codes "file")) ∷ [])
     (λ name buffer deaf. Task name buffer (manner_of deaf))
 
 abbrev pub cancel_spelled : Values (Name ∷ Choice (codes "in") (codes "out") ∷ Maybe Ref ∷ []) → Spelling

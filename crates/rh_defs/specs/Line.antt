@@ -11,8 +11,8 @@ use Rattle.rh_defs.specs.Chain.{◌>>=◌}
 use Rattle.rh_defs.specs.declared.command.Command.{Command}
 use Rattle.rh_defs.specs.declared.fault.LineFault.{LineFault}
 use Rattle.rh_defs.specs.declared.fault.LineFault.TheVariants.{TooLong, Unknown, Count, Word}
-use Rattle.rh_defs.specs.declared.sizes.TheConstants.{LONGEST_LINE}
-use Rattle.rh_defs.specs.Forms.{is_name, is_decimal, is_leaf, number_of, greatest, last_ref}
+use Rattle.rh_defs.specs.declared.sizes.TheConstants.{GREATEST_NUMBER, LONGEST_LINE}
+use Rattle.rh_defs.specs.Forms.{is_name, is_decimal, is_leaf, number_of, last_ref}
 use Rattle.rh_defs.specs.Grammar.{Form, Name, Leaf, Number, Ref, Delta, Address, Bytes, Choice, Maybe, Value, Maker, GrammarRow, rows}
 
 -- what a part of a line means, or its fault
@@ -58,7 +58,7 @@ unsigned w = if is_negative w then drop 1 w else w
 unfoldable pub delta_at : List (List ℕ) → ℕ → Meaning ℤ
 delta_at words n =
     let w = nth_word words n in
-    if is_decimal (unsigned w) && nat_le (number_of (unsigned w)) greatest
+    if is_decimal (unsigned w) && nat_le (number_of (unsigned w)) GREATEST_NUMBER
     then Ok (signed (is_negative w) (number_of (unsigned w)))
     else Err (Word n)
 

@@ -9,7 +9,6 @@ use Rattle.rh_defs.specs.declared.question.SegmentItem.{SegmentItem}
 use Rattle.rh_defs.specs.declared.question.SegmentItem.TheVariants as segment
 use Rattle.rh_defs.specs.declared.question.AreaItem.{AreaItem}
 use Rattle.rh_defs.specs.declared.question.AreaItem.TheVariants as item
-use Rattle.rh_defs.specs.declared.question.State.{State}
 use Rattle.rh_defs.specs.declared.question.State.TheVariants as state
 use Rattle.rh_defs.specs.declared.question.RecordItem.{RecordItem}
 use Rattle.rh_defs.specs.declared.refusal.Refusal.TheVariants.{BadRange}
@@ -63,23 +62,19 @@ area_items d =
     ++ map (λ (m : Made). item.Area m.number m.pages) d.made
     ++ map (λ t. item.Slot t.name (task_pages t)) d.tasks
 
--- a record's state, id and count
-abbrev pub listed_as : State → ℕ → ℕ → RecordItem
-listed_as state id count = record { state = state; id = id; count = count }
-
--- a record of a transfer that goes out
+-- the state, id and count of a record of a transfer that goes out
 abbrev pub out_item : Outgoing → RecordItem
-out_item (outgoing.Open x) = listed_as state.Open x.id x.count
-out_item (outgoing.Done id count) = listed_as state.Done id count
-out_item (outgoing.Failed id count) = listed_as state.Failed id count
+out_item (outgoing.Open x) = record { state = state.Open; id = x.id; count = x.count }
+out_item (outgoing.Done id count) = record { state = state.Done; id = id; count = count }
+out_item (outgoing.Failed id count) = record { state = state.Failed; id = id; count = count }
 
--- a record of a transfer that comes in
+-- the state, id and count of a record of a transfer that comes in
 abbrev pub in_item : Incoming → RecordItem
-in_item (incoming.Fetching f) = listed_as state.Fetching f.id f.count
-in_item (incoming.Draining f) = listed_as state.Draining f.id f.count
-in_item (incoming.Asking q) = listed_as state.Asking q.id 0
-in_item (incoming.Done id anchor count) = listed_as state.Done id count
-in_item (incoming.Failed id anchor count) = listed_as state.Failed id count
+in_item (incoming.Fetching f) = record { state = state.Fetching; id = f.id; count = f.count }
+in_item (incoming.Draining f) = record { state = state.Draining; id = f.id; count = f.count }
+in_item (incoming.Asking q) = record { state = state.Asking; id = q.id; count = 0 }
+in_item (incoming.Done id anchor count) = record { state = state.Done; id = id; count = count }
+in_item (incoming.Failed id anchor count) = record { state = state.Failed; id = id; count = count }
 
 -- what an answer lists
 pub data Listed : Type 0 where

@@ -4,15 +4,15 @@ use Rattle.std.specs.Prelude.{Bool, true, ◌&&◌, nat_le, List, [], ◌∷◌,
 use Rattle.std.specs.List.{list_all}
 use Rattle.rh_defs.specs.declared.command.Command.{Command}
 use Rattle.rh_defs.specs.declared.question.Question.{Question}
-use Rattle.rh_defs.specs.Forms.{is_name, is_delta, is_leaf, is_ref}
+use Rattle.rh_defs.specs.Forms.{is_name, is_delta, is_leaf}
 use Rattle.rh_defs.specs.Grammar.{Form, Name, Leaf, Number, Ref, Delta, Address, Bytes, Choice, Maybe, Value, Values, Spelling, spelled_by, spelling, question_spelling}
 
--- whether a value is one of the form; how great an address and a ref may be, their types say
+-- whether a value is one of the form; refs count from 1 on; how great an address and a ref may be, their types say
 abbrev pub is_of : (form : Form) → Value form → Bool
 is_of Name name = is_name name
 is_of Leaf leaf = is_leaf leaf
 is_of (Number low high) n = nat_le low n && nat_le n high
-is_of Ref ref = is_ref ref
+is_of Ref ref = nat_le 1 ref
 is_of Delta amount = is_delta amount
 is_of Address address = true
 is_of Bytes bytes = nat_le 1 (length bytes)

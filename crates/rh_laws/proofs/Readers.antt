@@ -1,11 +1,12 @@
 -- Each form of a word reads what is printed for it.
 use Rattle.rh_laws.proofs.Common.{◌≡◌, ℕ, zero, suc, ◌/◌, ◌%◌, ◌^◌, ◌<◌, Bool, true, false, ◌&&◌, List, [], ◌∷◌, length, refl, arith, lit≤, nat_le, nat_lt}
+use Rattle.rh_defs.specs.declared.sizes.TheConstants.{GREATEST_NUMBER}
 use Rattle.rh_laws.proofs.Common.{slice_index, ◌==◌, ℤ, pos, negsuc, Ok, list_all, is_ascii_digit, decimal, signed_decimal, digits, nat_tests, encode_lower}
 use Rattle.rh_laws.proofs.Common.{is_name, is_leaf, is_decimal, is_delta, nth_word, Words, address, and_left, and_right}
 use Rattle.std.specs.Char.{is_ascii_alphanumeric, is_ascii_alphabetic}
 use Rattle.hex.specs.Hex.{encode_with, lower_digits}
 use Rattle.hex.proofs.HexLemmas.{decode_of-encode_lower, length-encode_with}
-use Rattle.rh_defs.specs.Forms.{is_graphic, greatest}
+use Rattle.rh_defs.specs.Forms.{is_graphic}
 use Rattle.rh_defs.specs.Line.{name_at, number_at, delta_at, is_negative, is_address, address_at, leaf_at, bytes_read_at}
 use Rattle.rh_laws.proofs.Words.{is_whole, is_inner, all_pass}
 use Rattle.rh_laws.proofs.Numbers.{number_of_decimal, decimal_is_decimal, hex_digits, decimal_is_whole, test_at}
@@ -72,7 +73,7 @@ delta_read words n (pos k) is range =
     rw (is, decimal_has_no_sign k small, decimal_is_decimal k small, number_of_decimal k small, range) refl
 delta_read words n (negsuc k) is range =
     let small : suc k < 2 ^ 32 = grind (arith, nat_tests, range) in
-    let most : nat_le (suc k) greatest ≡ true = grind (arith, nat_tests, range) in
+    let most : nat_le (suc k) GREATEST_NUMBER ≡ true = grind (arith, nat_tests, range) in
     rw (is, decimal_is_decimal (suc k) small, number_of_decimal (suc k) small, most) refl
 
 pub delta_is_whole : (by : ℤ) → is_delta by ≡ true → is_whole (signed_decimal by) ≡ true

@@ -1,5 +1,6 @@
 -- What a line means can be spelled, and its printed line is not the longer one.
 use Rattle.rh_laws.proofs.Common.{◌≡◌, ℕ, zero, suc, ◌+◌, ◌-◌, ◌<◌, ◌≤◌, Bool, true, false, ◌&&◌, not, cond, List, [], ◌∷◌, ◌++◌, length, take, refl}
+use Rattle.rh_defs.specs.declared.sizes.TheConstants.{GREATEST_NUMBER}
 use Rattle.rh_laws.proofs.Common.{sym, subst}
 use Rattle.rh_laws.proofs.Common.{◌∙◌, ap, arith, length-append, inl, inr, ◌⊎◌, nat_le, nat_lt, ◌==◌, ℤ, pos, Some, None, Result, Ok, Err, if◌then◌else◌}
 use Rattle.rh_laws.proofs.Common.{unwrap_or, slice_get, slice_index, drop, list_all, join_with_byte, decimal, signed_decimal, bytes_eq, is_ascii_digit}
@@ -16,7 +17,7 @@ use Rattle.rh_defs.specs.declared.fault.LineFault.{LineFault}
 use Rattle.rh_defs.specs.declared.fault.LineFault.TheVariants.{TooLong, Count, Word}
 use Rattle.rh_defs.specs.Grammar.{Form, Name, Leaf, Ref, Delta, Address, Bytes, Value, Values, Maker, Spelling, spelled_by}
 use Rattle.rh_defs.proofs.GrammarLaws.{Spells, AllSpell, rows-spell}
-use Rattle.rh_defs.specs.Forms.{is_graphic, greatest, last_ref}
+use Rattle.rh_defs.specs.Forms.{is_graphic, last_ref}
 use Rattle.rh_defs.specs.Chain.{◌>>=◌}
 use Rattle.rh_defs.specs.Line.{Meaning, words_of, name_at, number_at, delta_at, signed, is_negative, unsigned, is_address, address_at, leaf_at}
 use Rattle.rh_defs.specs.Line.{choice_at, bytes_read_at, value_at, command_from, is_count, follow, row_means, command_by}
@@ -202,7 +203,7 @@ delta_printed : (words : Words) (n : ℕ) (by : ℤ) → delta_at words (n + 1) 
 unfolding delta_at
 delta_printed words n by e =
     let w = nth_word words (n + 1) in
-    let told = if_ok (is_decimal (unsigned w) && nat_le (number_of (unsigned w)) greatest) (signed (is_negative w)
+    let told = if_ok (is_decimal (unsigned w) && nat_le (number_of (unsigned w)) GREATEST_NUMBER) (signed (is_negative w)
     (number_of (unsigned w))) by (Word (n + 1)) e in
     let parts = signed_short w (is_negative w) refl (and_left (is_decimal (unsigned w)) _ told.0) in
     record {

@@ -1,5 +1,6 @@
 -- What holds of the action of each message, if it holds for each record that the message may be for.
 use Rattle.rh_safety.proofs.Common.{◌≡◌, ℕ, Bool, true, not, ◌&&◌, List, Option, Some, None, refl, inl, inr, option_map, IfSome, Sending, Taking, Asked}
+use Rattle.std.specs.Option.{option_and_then}
 use Rattle.rh_safety.proofs.Common.{Outgoing, Incoming, SendAction, TakeAction, open_of, chosen, Active, Has, FoundActive, active_is, asking_is, drains}
 use Rattle.rh_safety.proofs.Common.{fetches, is_full, open_is}
 use Rattle.rh_defs.specs.declared.transfer.Incoming.TheVariants as incoming
@@ -30,14 +31,14 @@ module _ (P : TakeAction → Type 0) (ws : List Incoming) where
   active-does : (do_for : Incoming → Option TakeAction) (test : Taking → Bool) →
       ((f : Taking) → Has (incoming.Fetching f) ws → IfSome (do_for (incoming.Fetching f)) P) →
       ((f : Taking) → Has (incoming.Draining f) ws → IfSome (do_for (incoming.Draining f)) P) →
-      IfSome (receiver.of_record do_for (active_of test ws)) P
+      IfSome (option_and_then do_for (active_of test ws)) P
   active-does do_for test fetching draining = go (active_of test ws) refl
     where
       found : (w : Incoming) → FoundActive test ws w → IfSome (do_for w) P
       found w (fetches f has p) = fetching f has
       found w (drains f has p) = draining f has
 
-      go : (v : Option Incoming) → active_of test ws ≡ v → IfSome (receiver.of_record do_for v) P
+      go : (v : Option Incoming) → active_of test ws ≡ v → IfSome (option_and_then do_for v) P
       go None q = tt
       go (Some w) q = found w (active_is test ws w q)
 

@@ -1,6 +1,7 @@
 -- What a task does with a message that a poll hands it, told once: the record that the message is for, the letter that goes out,
 -- and the desk after it.
 use Rattle.rh_safety.proofs.Common.{Acknowledge, Active, AnchorInUse, Append, Asked, Bool, Body, Claim, Desk, Err, EventCode, FoundActive, Granted, Handled}
+use Rattle.std.specs.Option.{option_and_then}
 use Rattle.rh_safety.proofs.Common.{Has, OnGrant}
 use Rattle.rh_safety.proofs.Common.{Incoming, LoadFile, NoTask, None, Ok, Option, Outcome, Part, Recorded, Refusal, SaveFile, Scrap, Sending, Split, Flex}
 use Rattle.rh_safety.proofs.Common.{Some, TakeAction, Taking, Task, Transmit, User, accept, ack_back, active_is, and_right, answers_none, append, appended}
@@ -319,7 +320,7 @@ module _ (d : Desk) (t : Task) (m : Parcel) where
         (λ few. or_else-keeps T _ (granted-then _ _ λ longer l. granted (some-taken longer l)) (λ refusal. gives_up f _ active (refused refusal refl)))
 
   transmitted : (buffer n : ℕ) (v : Option Incoming) → active_of (receiver.is_answer t.buffer from your buffer n) t.taking ≡ v →
-      Act false (body.RamTransmit buffer n) (perform_take d t (receiver.of_record (receiver.take_for t.buffer my n) v))
+      Act false (body.RamTransmit buffer n) (perform_take d t (option_and_then (receiver.take_for t.buffer my n) v))
   unfolding perform_take take_with
   transmitted buffer n None e = skips (record {
     open_ = λ x has. refl;
@@ -335,7 +336,7 @@ module _ (d : Desk) (t : Task) (m : Parcel) where
       found w q (drains f has p) = gives_up f _ (record { has = inr has; passes = p }) (drained q)
 
   returned : (buffer n : ℕ) (v : Option Incoming) → active_of (λ f. f.fetch == my) t.taking ≡ v →
-      Act true (body.RamFetch buffer n) (perform_take d t (receiver.of_record receiver.back_for v))
+      Act true (body.RamFetch buffer n) (perform_take d t (option_and_then receiver.back_for v))
   unfolding perform_take take_with ask
   returned buffer n None e = skips (record {
     open_ = λ x has. refl;

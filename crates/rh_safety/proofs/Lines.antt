@@ -1,5 +1,6 @@
 -- Lines spell commands in range, and the desk after lines is that after their commands.
 use Rattle.rh_safety.proofs.Common.{◌≡◌, ℕ, zero, suc, ◌+◌, ◌-◌, ◌*◌, Bool, true, false, ◌&&◌, List, [], ◌∷◌, length, Option, Some, None, refl, ap, ◌∙◌}
+use Rattle.rh_defs.specs.declared.sizes.TheConstants.{GREATEST_NUMBER}
 use Rattle.rh_safety.proofs.Common.{subst, arith}
 use Rattle.rh_safety.proofs.Common.{Result, Ok, Err, IfSome, nat_le, nat_lt, ◌==◌, if◌then◌else◌, filter_map, bytes_eq, leb_tells, Command, is_name, in_range}
 use Rattle.rh_safety.proofs.Common.{Desk, step, after, and_left, and_right}
@@ -10,7 +11,7 @@ use Rattle.hex.specs.declared.error.FromHexError.{FromHexError}
 use Rattle.hex.proofs.HexLemmas.{decode_of-ok}
 use Rattle.rh_defs.specs.declared.fault.LineFault.{LineFault}
 use Rattle.rh_defs.specs.declared.fault.LineFault.TheVariants.{TooLong, Unknown, Count, Word}
-use Rattle.rh_defs.specs.Forms.{is_delta, is_decimal, is_leaf, is_ref, number_of, greatest, last_ref}
+use Rattle.rh_defs.specs.Forms.{is_delta, is_decimal, is_leaf, number_of, last_ref}
 use Rattle.rh_defs.specs.Grammar.{Form, Name, Leaf, Number, Ref, Delta, Address, Bytes, Choice, Maybe, Values, Maker, GrammarRow, Spelling, spelled_by, rows}
 use Rattle.rh_defs.specs.Range.{is_of, all_of, can_be_read, all_in_range}
 use Rattle.rh_defs.proofs.GrammarLaws.{Spells, RowSpells, AllSpell, rows-spell}
@@ -84,7 +85,7 @@ number_means words n low high =
     where_true (Passes (λ k. nat_le low k && nat_le k high)) _ (number_of w) (Word n) (λ q. last_two (is_decimal w) _
     _ q)
 
-signed_delta : (negative : Bool) (n : ℕ) → nat_le n greatest ≡ true → is_delta (signed negative n) ≡ true
+signed_delta : (negative : Bool) (n : ℕ) → nat_le n GREATEST_NUMBER ≡ true → is_delta (signed negative n) ≡ true
 signed_delta false n q = q
 signed_delta true zero q = refl
 signed_delta true (suc n) q = q
@@ -124,7 +125,7 @@ value_means : (form : Form) (words : List (List ℕ)) (n : ℕ) → Means (Passe
 value_means Name words n = name_means words n
 value_means Leaf words n = leaf_means words n
 value_means (Number low high) words n = number_means words n low high
-value_means Ref words n = means_also _ (Passes is_ref) (number_at words n 1 last_ref) (λ k q. and_left (nat_le 1 k) (nat_le k last_ref) q)
+value_means Ref words n = means_also _ (Passes (nat_le 1)) (number_at words n 1 last_ref) (λ k q. and_left (nat_le 1 k) (nat_le k last_ref) q)
     (number_means words n 1 last_ref)
 value_means Delta words n = delta_means words n
 value_means Address words n = means_also Any _ (address_at words n) (λ x u. refl) (any_means (address_at words n))

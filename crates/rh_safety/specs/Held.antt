@@ -3,6 +3,7 @@
 -- reply. *edits_next* follows one command by its reply, *edits_from* all commands.
 use Rattle.std.specs.Prelude.{ℕ, Bool, false, ◌&&◌, ◌||◌, ◌==◌, if◌then◌else◌, List, [], ◌∷◌, find, Option, Some, None}
 use Rattle.std.specs.List.{list_any}
+use Rattle.std.specs.Option.{option_and_then}
 use Rattle.rh_defs.specs.declared.command.Command.{Command}
 use Rattle.rh_defs.specs.declared.command.Command.TheVariants as command
 use Rattle.rh_defs.specs.declared.reply.Reply.{Reply}
@@ -68,8 +69,7 @@ document_of t edited None = None
 document_of t edited (Some w) = if edited then None else bytes_of_block t.slot (in_anchor w)
 
 abbrev pub held_of : Option Task → ℕ → Bool → Option (List ℕ)
-held_of None id edited = None
-held_of (Some t) id edited = document_of t edited (find (λ w. in_id w == id) t.taking)
+held_of task id edited = option_and_then (λ (t : Task). document_of t edited (find (λ w. in_id w == id) t.taking)) task
 
 -- what the live task of the handle holds of the transfer with the id, after a run of the commands from the desk
 abbrev pub held : Desk → List Command → ℕ → ℕ → Option (List ℕ)

@@ -2,7 +2,7 @@
 -- d is a desk, k an anchor, ref the ref of a DataSave, which is the id of its transfer, r a reply, s a slot, t a task.
 -- *offers_next* follows one command by its reply, *offers_from* all commands.
 use Rattle.std.specs.Prelude.{ℕ, ◌==◌, if◌then◌else◌, List, [], ◌∷◌, find, Option, Some, None}
-use Rattle.std.specs.Option.{option_map}
+use Rattle.std.specs.Option.{option_and_then, option_map}
 use Rattle.rh_defs.specs.Pieces.{Split}
 use Rattle.rh_defs.specs.Slot.{Slot, Flex, block_of}
 use Rattle.rh_defs.specs.declared.message.Body.{Body}
@@ -29,8 +29,7 @@ bytes_of_block s k = option_map (λ (b : Split Flex). b.here.bytes) (block_of k 
 
 -- the bytes of the task's block with the anchor
 abbrev pub source_of : Option Task → ℕ → Option (List ℕ)
-source_of None k = None
-source_of (Some t) k = bytes_of_block t.slot k
+source_of task k = option_and_then (λ (t : Task). bytes_of_block t.slot k) task
 
 -- a save that was accepted offers its block's bytes
 abbrev pub saved_next : Offers → Desk → List ℕ → ℕ → Reply → Offers
@@ -48,8 +47,7 @@ offered_last offers ref (Some last) = offered_again offers ref last.1 last.0.bod
 
 -- the letter that a task sent last, with its ref
 abbrev pub last_of : Option Task → Option (Letter × ℕ)
-last_of None = None
-last_of (Some t) = t.last_sent
+last_of task = option_and_then (λ (t : Task). t.last_sent) task
 
 abbrev pub repeated_next : Offers → Desk → List ℕ → Reply → Offers
 repeated_next offers d name (reply.Sent ref) = offered_last offers ref (last_of (find (has_name name) d.tasks))
