@@ -3,20 +3,17 @@ use Rattle.std.proofs.Common.{◌≡◌, ℕ, Bool, true, false, List, [], ◌�
 use Rattle.std.specs.Prelude.{◌==◌, Option, Some, Ok, Err}
 use Rattle.std.specs.List.{list_any}
 use Rattle.std.specs.Option.{option_map}
-use Rattle.rh_defs.specs.Chain as chain
 use Rattle.rh_defs.specs.Chain.{Granted, ◌>>=◌, answer_of, left_of, outcome_of, refuse_if}
 use Rattle.rh_defs.specs.Heap.{Heap, as_granted, claim_growing, need}
-use Rattle.rh_defs.specs.Module as modules
 use Rattle.rh_defs.specs.Module.{module_claim}
-use Rattle.rh_defs.specs.Messages as messages
 use Rattle.rh_defs.specs.Messages.{parcel_size}
 use Rattle.rh_defs.specs.Pieces.{lacks_pages}
 use Rattle.rh_defs.specs.declared.refusal.Refusal.TheVariants.{NoRoom}
-use Rattle.rh_defs.specs.Post as posts
 use Rattle.rh_defs.specs.Post.{Post, message_of, posted, post_send, post_poll}
 use Rattle.rh_defs.specs.declared.message.Body.TheVariants.{RamFetch}
 use Rattle.rh_defs.specs.declared.message.Event.{Event}
 use Rattle.rh_defs.specs.declared.message.EventCode.TheVariants.{User}
+use Rattle.rh_defs.specs.Inner.Computing.{computing_chain, computing_module, computing_messages, computing_post}
 use Rattle.rh_wimp.specs.QueueCalls.{handles_of}
 use Rattle.rh_wimp.specs.Chains.{Chains, HasEntry, event_of}
 use Rattle.rh_wimp.proofs.LeavesLaws.{HasEntry-from_handles}
@@ -36,7 +33,7 @@ claimed buffer n x h (Err refusal) e = absurd cc
 -- what the poll after a send answers
 pub fetch-polled : (free buffer n x : ℕ) (h : Heap) → ◌≡◌ {A = Granted ℕ} (Ok x) (answer_of (post_send free (fetch buffer n) (two_idle h)))
     → option_map event_of (post_poll 2 (left_of (two_idle h) (post_send free (fetch buffer n) (two_idle h)))).1 ≡ fetched buffer n
-unfolding chain.computing posts.computing
+unfolding computing_chain computing_post
 fetch-polled free buffer n x h e = claimed buffer n x h (module_claim free (parcel_size (message_of (fetch buffer n) 0)) h) e
 
 answered : {A B : Type 0} (q : Granted (A × B)) → outcome_of (answer_of q) ≡ outcome_of q
@@ -56,7 +53,7 @@ claimed_in false there = refl
 
 -- nothing but room for it may lack
 sent : (free buffer n : ℕ) (h : Heap) → outcome_of (post_send free (fetch buffer n) (two_idle h)) ≡ refuse_if (lacks_pages free (need fetch_size h)) NoRoom
-unfolding chain.computing posts.computing modules.computing messages.computing
+unfolding computing_chain computing_post computing_module computing_messages
 sent free buffer n h =
     posted_in buffer n h (module_claim free (parcel_size (message_of (fetch buffer n) 0)) h)
     ∙ claimed_in (lacks_pages free (need fetch_size h)) (as_granted (claim_growing fetch_size h))

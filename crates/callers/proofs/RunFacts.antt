@@ -3,7 +3,6 @@ use Rattle.std.proofs.Common.{◌≡◌, ℕ, List, [], ◌∷◌, true, refl, s
 use Rattle.rh_defs.specs.Desk.{Desk}
 use Rattle.rh_defs.specs.Order.{IsReordered}
 use Rattle.rh_defs.specs.Range.{in_range}
-use Rattle.rh_defs.specs.Runs as runs
 use Rattle.rh_defs.specs.Runs.{start, after}
 use Rattle.rh_defs.specs.Commands.{step}
 use Rattle.rh_defs.specs.declared.command.Command.{Command}
@@ -11,6 +10,7 @@ use Rattle.rh_defs.specs.declared.command.Command.TheVariants.{Task, Alloc, Clai
 use Rattle.rh_defs.specs.declared.command.Manner.TheVariants.{Plain}
 use Rattle.rh_defs.specs.declared.reply.Reply.{Reply}
 use Rattle.rh_defs.specs.declared.reply.Reply.TheVariants.{Block}
+use Rattle.rh_defs.specs.Inner.Computing.{computing_runs}
 use Rattle.rh_tasks.specs.Answer.{RunsOn, StepsTo}
 use Rattle.callers.specs.UsedTasks.{the_commands, the_name}
 
@@ -38,7 +38,7 @@ in_ranges name is = rw is (refl, refl, refl)
 
 claimed : (x y z : List ℕ) → x ≡ the_name → y ≡ the_name → z ≡ the_name
     → (step (after (start 64 []) (the_task x ∷ the_alloc y ∷ [])) (the_claim z)).1 ≡ Block 0x8114
-unfolding runs.computing
+unfolding computing_runs
 claimed x y z i j k = rw (i, j, k) refl
 
 -- the C heap's first block is at &8114, also where the heap grows for it

@@ -1,8 +1,7 @@
 -- Worked blocks of a heap by their addresses: the definitions compute these answers.
 use Rattle.rh_defs.proofs.Common.{◌≡◌, refl, [], ◌∷◌, Some, None, Ok, with_part, zeros, Used, Hole, Heap, block_room, block_bytes, poked, module_claim}
 use Rattle.rh_defs.proofs.Common.{module_free}
-use Rattle.rh_defs.specs.Chain as chain
-use Rattle.rh_defs.specs.Module as module_area
+use Rattle.rh_defs.specs.Inner.Computing.{computing_chain, computing_module}
 
 -- a block at address 20, a hole at place 24, a block at address 36, and a top of 8 bytes
 abbrev pub two_blocks : Heap
@@ -18,7 +17,7 @@ no_bytes = (refl, refl)
 -- a claim of 3 bytes fills the hole with a block of 4 zeros
 pub claimed : module_claim 0 3 two_blocks ≡ Ok
     (record two_blocks { segments = Used (1 ∷ 2 ∷ 3 ∷ 4 ∷ []) ∷ Used (0 ∷ 0 ∷ 0 ∷ 0 ∷ []) ∷ Used (5 ∷ 6 ∷ 7 ∷ 8 ∷ []) ∷ [] }, 28)
-unfolding chain.computing module_area.computing
+unfolding computing_chain computing_module
 claimed = refl
 
 pub claimed_zeros : zeros (block_room 3) ≡ 0 ∷ 0 ∷ 0 ∷ 0 ∷ []
@@ -26,7 +25,7 @@ claimed_zeros = refl
 
 -- the first block goes, and the hole behind it joins its place
 pub freed : module_free 20 two_blocks ≡ Ok (record two_blocks { segments = Hole 16 ∷ Used (5 ∷ 6 ∷ 7 ∷ 8 ∷ []) ∷ [] })
-unfolding chain.computing module_area.computing
+unfolding computing_chain computing_module
 freed = refl
 
 -- two bytes from offset 1 on

@@ -1,7 +1,7 @@
 -- Worked scripts on memory, by computation: what each line answers.
 use Rattle.rh_defs.proofs.Common.{◌≡◌, refl, true, [], ◌∷◌, codes, hex_on_literals, start_with}
 use Rattle.rh_defs.specs.Runs.{start}
-use Rattle.rh_defs.specs.Script
+use Rattle.rh_defs.specs.Inner.Computing.{computing_script}
 use Rattle.rh_defs.proofs.Rows.{Any, Is, Begins, Has, meets}
 
 -- one page for the module area, and one for a slot
@@ -9,7 +9,7 @@ pub fresh_desk : meets (start 8 []) (
     ("task a 100", Is "ok 1\n")
     ∷ ("areas", Is "ok 6\n  area 0 0\n  area 1 1\n  area 2 0\n  area 3 0\n  area 4 0\n  area 5 0\n  slot a 1\n") ∷ []
     ) ≡ true
-unfolding Script.computing hex_on_literals
+unfolding computing_script hex_on_literals
 fresh_desk = refl
 
 -- a block that takes the whole pool
@@ -19,7 +19,7 @@ pub whole_pool : meets (start 8 []) (
     ∷ ("areas", Begins "ok 0")
     ∷ ("areas", Has "slot a 7") ∷ []
     ) ≡ true
-unfolding Script.computing hex_on_literals
+unfolding computing_script hex_on_literals
 whole_pool = refl
 
 -- one byte more is refused, and nothing changes
@@ -28,7 +28,7 @@ pub whole_pool_one_byte_more : meets (start 8 []) (
     ∷ ("alloc a 0 24569", Is "refused NoRoom\n")
     ∷ ("areas", Is "ok 6\n  area 0 0\n  area 1 1\n  area 2 0\n  area 3 0\n  area 4 0\n  area 5 0\n  slot a 1\n") ∷ []
     ) ≡ true
-unfolding Script.computing hex_on_literals
+unfolding computing_script hex_on_literals
 whole_pool_one_byte_more = refl
 
 -- the C heap grows, and the flex block gives way
@@ -40,7 +40,7 @@ pub budging : meets (start 64 []) (
     ∷ ("blocks a", Is "ok 1\n  0 &A008 5\n")
     ∷ ("show a 0", Is "ok 5 68656c6c6f\n") ∷ []
     ) ≡ true
-unfolding Script.computing hex_on_literals
+unfolding computing_script hex_on_literals
 budging = refl
 
 -- with budging off it does not
@@ -51,7 +51,7 @@ pub budging_off : meets (start 64 []) (
     ∷ ("budge a off", Is "ok on\n")
     ∷ ("claim a 4000", Is "refused NoBudge\n") ∷ []
     ) ≡ true
-unfolding Script.computing hex_on_literals
+unfolding computing_script hex_on_literals
 budging_off = refl
 
 -- the first hole that fits is taken
@@ -69,7 +69,7 @@ pub first_fit : meets (start 64 []) (
     ∷ ("release a &8124", Any)
     ∷ ("heap a", Is "ok 3840 3748 3784\n  hole &8110 32\n  used &8134 12\n  used &8144 20\n") ∷ []
     ) ≡ true
-unfolding Script.computing hex_on_literals
+unfolding computing_script hex_on_literals
 first_fit = refl
 
 -- blocks slide down; bytes are taken out and put in
@@ -88,7 +88,7 @@ pub slide_and_mid : meets (start 64 []) (
     ∷ ("show a 1", Is "ok 5 726c640000\n")
     ∷ ("mid a 1 6 1", Is "refused BadRange\n") ∷ []
     ) ≡ true
-unfolding Script.computing hex_on_literals
+unfolding computing_script hex_on_literals
 slide_and_mid = refl
 
 -- a block grows and shrinks below another
@@ -102,7 +102,7 @@ pub extend_slides : meets (start 64 []) (
     ∷ ("blocks a", Is "ok 2\n  0 &9008 2\n  1 &9014 5\n")
     ∷ ("show a 0", Is "ok 2 0000\n") ∷ []
     ) ≡ true
-unfolding Script.computing hex_on_literals
+unfolding computing_script hex_on_literals
 extend_slides = refl
 
 -- blocks of the C heap get other sizes
@@ -119,7 +119,7 @@ pub resize_lines : meets (start 64 []) (
     ∷ ("resize a &8124 8", Is "ok &8124\n")
     ∷ ("claim a 0", Is "refused BadSize\n") ∷ []
     ) ≡ true
-unfolding Script.computing hex_on_literals
+unfolding computing_script hex_on_literals
 resize_lines = refl
 
 -- refusals, each where the ones before do not hold
@@ -135,7 +135,7 @@ pub refusals : meets (start 64 ((codes "f", 1 ∷ 2 ∷ 3 ∷ []) ∷ [])) (
     ∷ ("repeat a", Is "refused NothingSent\n")
     ∷ ("save a 0 q doc", Is "refused NoTask\n") ∷ []
     ) ≡ true
-unfolding Script.computing hex_on_literals
+unfolding computing_script hex_on_literals
 refusals = refl
 
 -- areas get and lose pages
@@ -149,7 +149,7 @@ pub area_changes : meets (start 8 []) (
     ∷ ("area 4 99999", Is "refused NoRoom\n")
     ∷ ("area 3 -2147483647", Is "refused ExcessiveShrink\n") ∷ []
     ) ≡ true
-unfolding Script.computing hex_on_literals
+unfolding computing_script hex_on_literals
 area_changes = refl
 
 -- blocks that make the module area grow
@@ -167,7 +167,7 @@ pub module_blocks_grow_the_area : meets (start 8 []) (
     ∷ ("rma claim 0", Is "refused BadSize\n")
     ∷ ("rma claim 2147483647", Is "refused NoRoom\n") ∷ []
     ) ≡ true
-unfolding Script.computing hex_on_literals
+unfolding computing_script hex_on_literals
 module_blocks_grow_the_area = refl
 
 -- with 8 pages the eighth task has no room
@@ -181,7 +181,7 @@ pub limits_few_pages : meets (start 8 []) (
     ∷ ("task t7 100", Is "ok 7\n")
     ∷ ("task t8 100", Is "refused NoRoom\n") ∷ []
     ) ≡ true
-unfolding Script.computing hex_on_literals
+unfolding computing_script hex_on_literals
 limits_few_pages = refl
 
 -- at most 32 tasks are live
@@ -220,7 +220,7 @@ pub limits : meets (start 64 []) (
     ∷ ("task t32 100", Is "ok 32\n")
     ∷ ("task t33 100", Is "refused TooManyTasks\n") ∷ []
     ) ≡ true
-unfolding Script.computing hex_on_literals
+unfolding computing_script hex_on_literals
 limits = refl
 
 -- the last handle is given once
@@ -228,7 +228,7 @@ pub used_up_handles : meets (start_with 64 [] 4294967295 4294967295) (
     ("task a 100", Is "ok 4294967295\n")
     ∷ ("task b 100", Is "refused NoHandles\n") ∷ []
     ) ≡ true
-unfolding Script.computing hex_on_literals
+unfolding computing_script hex_on_literals
 used_up_handles = refl
 
 -- areas made at run
@@ -248,7 +248,7 @@ pub made_areas : meets (start 8 []) (
     ∷ ("remove 5", Is "bad Word 2\n")
     ∷ ("areas", Is "ok 6\n  area 0 0\n  area 1 1\n  area 2 0\n  area 3 0\n  area 4 0\n  area 5 0\n  area 257 0\n  slot a 1\n") ∷ []
     ) ≡ true
-unfolding Script.computing hex_on_literals
+unfolding computing_script hex_on_literals
 made_areas = refl
 
 -- at most 32 of them are live
@@ -287,7 +287,7 @@ pub made_areas_thirty_two : meets (start 64 []) (
     ∷ ("make 1", Is "ok 287\n")
     ∷ ("make 1", Is "refused TooManyAreas\n") ∷ []
     ) ≡ true
-unfolding Script.computing hex_on_literals
+unfolding computing_script hex_on_literals
 made_areas_thirty_two = refl
 
 -- a pool of 1,024 pages is one slot's, but for the module area
@@ -296,7 +296,7 @@ pub thousand_pages : meets (start 1024 []) (
     ∷ ("areas", Begins "ok 1022\n")
     ∷ ("alloc a 0 4186105", Is "refused NoRoom\n") ∷ []
     ) ≡ true
-unfolding Script.computing hex_on_literals
+unfolding computing_script hex_on_literals
 thousand_pages = refl
 
 -- the last number of a made area is given once
@@ -305,5 +305,5 @@ pub last_area_number : meets (record (start 8 []) { next_area = 65535 }) (
     ∷ ("remove 65535", Is "ok\n")
     ∷ ("make 1", Is "refused NoNumbers\n") ∷ []
     ) ≡ true
-unfolding Script.computing hex_on_literals
+unfolding computing_script hex_on_literals
 last_area_number = refl

@@ -1,10 +1,10 @@
 -- Worked messages: their bytes, what the bytes spell, and the segment of the module area that each one takes.
 use Rattle.rh_defs.proofs.Common.{◌≡◌, refl, ℕ, List, [], ◌∷◌, codes, Ok, Err, slice_set, take, segment_size, word, part, encoded, parcel_size, DataSave}
 use Rattle.rh_defs.proofs.Common.{DataSaveAck, RamFetch, RamTransmit, Message}
-use Rattle.rh_defs.specs.Messages as messages
 use Rattle.rh_defs.specs.MessageImage.{decoded}
 use Rattle.rh_defs.specs.declared.message.FileData.{FileData}
 use Rattle.rh_defs.specs.declared.message.MessageFault.TheVariants.{BadLength, BadAction}
+use Rattle.rh_defs.specs.Inner.Computing.{computing_messages}
 
 -- a file of this desk: no place, and type &FFD
 abbrev pub file : ℕ → List ℕ → FileData
@@ -19,7 +19,7 @@ data_save_image = 48 ∷ 0 ∷ 0 ∷ 0 ∷ 1 ∷ 0 ∷ 0 ∷ 0 ∷ 1 ∷ 0 ∷ 0
     ∷ 0 ∷ 5 ∷ 0 ∷ 0 ∷ 0 ∷ 253 ∷ 15 ∷ 0 ∷ 0 ∷ 100 ∷ 111 ∷ 99 ∷ 0 ∷ []
 
 pub data_save_bytes : encoded data_save ≡ data_save_image
-unfolding messages.computing
+unfolding computing_messages
 data_save_bytes = refl
 
 pub data_save_spelled : decoded data_save_image ≡ Ok data_save
@@ -27,7 +27,7 @@ unfolding decoded word part
 data_save_spelled = refl
 
 pub data_save_segment : segment_size (parcel_size data_save) ≡ 64
-unfolding messages.computing
+unfolding computing_messages
 data_save_segment = refl
 
 -- RAMFetch ref 2 in answer to 1, 100 bytes at most
@@ -38,7 +38,7 @@ abbrev pub ram_fetch_image : List ℕ
 ram_fetch_image = 28 ∷ 0 ∷ 0 ∷ 0 ∷ 1 ∷ 0 ∷ 0 ∷ 0 ∷ 2 ∷ 0 ∷ 0 ∷ 0 ∷ 1 ∷ 0 ∷ 0 ∷ 0 ∷ 6 ∷ 0 ∷ 0 ∷ 0 ∷ 20 ∷ 129 ∷ 0 ∷ 0 ∷ 100 ∷ 0 ∷ 0 ∷ 0 ∷ []
 
 pub ram_fetch_bytes : encoded ram_fetch ≡ ram_fetch_image
-unfolding messages.computing
+unfolding computing_messages
 ram_fetch_bytes = refl
 
 pub ram_fetch_spelled : decoded ram_fetch_image ≡ Ok ram_fetch
@@ -46,7 +46,7 @@ unfolding decoded word part
 ram_fetch_spelled = refl
 
 pub ram_fetch_segment : segment_size (parcel_size ram_fetch) ≡ 40
-unfolding messages.computing
+unfolding computing_messages
 ram_fetch_segment = refl
 
 -- RAMTransmit ref 3 in answer to 2, 5 bytes
@@ -57,7 +57,7 @@ abbrev pub ram_transmit_image : List ℕ
 ram_transmit_image = 28 ∷ 0 ∷ 0 ∷ 0 ∷ 1 ∷ 0 ∷ 0 ∷ 0 ∷ 3 ∷ 0 ∷ 0 ∷ 0 ∷ 2 ∷ 0 ∷ 0 ∷ 0 ∷ 7 ∷ 0 ∷ 0 ∷ 0 ∷ 20 ∷ 129 ∷ 0 ∷ 0 ∷ 5 ∷ 0 ∷ 0 ∷ 0 ∷ []
 
 pub ram_transmit_bytes : encoded ram_transmit ≡ ram_transmit_image
-unfolding messages.computing
+unfolding computing_messages
 ram_transmit_bytes = refl
 
 pub ram_transmit_spelled : decoded ram_transmit_image ≡ Ok ram_transmit
@@ -65,7 +65,7 @@ unfolding decoded word part
 ram_transmit_spelled = refl
 
 pub ram_transmit_segment : segment_size (parcel_size ram_transmit) ≡ 40
-unfolding messages.computing
+unfolding computing_messages
 ram_transmit_segment = refl
 
 -- DataSaveAck ref 3 in answer to 1: the file won't be safe
@@ -77,7 +77,7 @@ data_save_ack_image = 60 ∷ 0 ∷ 0 ∷ 0 ∷ 2 ∷ 0 ∷ 0 ∷ 0 ∷ 3 ∷ 0 �
     ∷ 0 ∷ 0 ∷ 255 ∷ 255 ∷ 255 ∷ 255 ∷ 253 ∷ 15 ∷ 0 ∷ 0 ∷ 60 ∷ 87 ∷ 105 ∷ 109 ∷ 112 ∷ 36 ∷ 83 ∷ 99 ∷ 114 ∷ 97 ∷ 112 ∷ 62 ∷ 0 ∷ 0 ∷ 0 ∷ 0 ∷ []
 
 pub data_save_ack_bytes : encoded data_save_ack ≡ data_save_ack_image
-unfolding messages.computing
+unfolding computing_messages
 data_save_ack_bytes = refl
 
 pub data_save_ack_spelled : decoded data_save_ack_image ≡ Ok data_save_ack
@@ -85,7 +85,7 @@ unfolding decoded word part
 data_save_ack_spelled = refl
 
 pub data_save_ack_segment : segment_size (parcel_size data_save_ack) ≡ 72
-unfolding messages.computing
+unfolding computing_messages
 data_save_ack_segment = refl
 
 -- bytes of a DataSave with one of them changed

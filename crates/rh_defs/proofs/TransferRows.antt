@@ -1,7 +1,7 @@
 -- Worked scripts of transfers, by computation: what each line answers.
 use Rattle.rh_defs.proofs.Common.{◌≡◌, refl, true, [], ◌∷◌, ◌++◌, replicate, hex_on_literals, start_with}
 use Rattle.rh_defs.specs.Runs.{start}
-use Rattle.rh_defs.specs.Script
+use Rattle.rh_defs.specs.Inner.Computing.{computing_script}
 use Rattle.rh_defs.proofs.Rows.{Any, Is, Begins, Has, meets}
 
 -- an empty block is transferred
@@ -18,7 +18,7 @@ pub empty_file : meets (start 64 []) (
     ∷ ("blocks b", Is "ok 1\n  0 &9008 0\n")
     ∷ ("show b 0", Is "ok 0\n") ∷ []
     ) ≡ true
-unfolding Script.computing hex_on_literals
+unfolding computing_script hex_on_literals
 empty_file = refl
 
 -- a file that is a multiple of the buffer ends with a transmit of 0 bytes
@@ -37,7 +37,7 @@ pub multiple_of_buffer : meets (start 64 []) (
     ∷ ("status b", Has "in fetching 1 200")
     ∷ ("poll b", Is "ok 17 RAMTransmit 7 6 took 0 done\n") ∷ []
     ) ≡ true
-unfolding Script.computing hex_on_literals
+unfolding computing_script hex_on_literals
 multiple_of_buffer = refl
 
 -- a short transmit ends a transfer
@@ -54,7 +54,7 @@ pub short_last_buffer : meets (start 64 []) (
     ∷ ("poll a", Is "ok 18 RAMFetch 6 5 sent 50 7\n")
     ∷ ("poll b", Is "ok 17 RAMTransmit 7 6 took 50 done\n") ∷ []
     ) ≡ true
-unfolding Script.computing hex_on_literals
+unfolding computing_script hex_on_literals
 short_last_buffer = refl
 
 -- the source slides between fetch and transmit
@@ -73,7 +73,7 @@ pub source_slides : meets (start 64 []) (
     ∷ ("poll b", Is "ok 17 RAMTransmit 3 2 took 3 done\n")
     ∷ ("show b 0", Is "ok 3 010203\n") ∷ []
     ) ≡ true
-unfolding Script.computing hex_on_literals
+unfolding computing_script hex_on_literals
 source_slides = refl
 
 -- a task sends to itself
@@ -88,7 +88,7 @@ pub self_transfer : meets (start 64 []) (
     ∷ ("blocks a", Is "ok 2\n  0 &9008 5\n  1 &9018 5\n")
     ∷ ("show a 1", Is "ok 5 68656c6c6f\n") ∷ []
     ) ≡ true
-unfolding Script.computing hex_on_literals
+unfolding computing_script hex_on_literals
 self_transfer = refl
 
 -- a deaf task takes no DataSave
@@ -103,7 +103,7 @@ pub deaf : meets (start 64 []) (
     ∷ ("poll a", Is "ok 19 DataSave 1 0 failed\n")
     ∷ ("status a", Has "out failed 1 0") ∷ []
     ) ≡ true
-unfolding Script.computing hex_on_literals
+unfolding computing_script hex_on_literals
 deaf = refl
 
 -- messages and blocks share the module area
@@ -120,7 +120,7 @@ pub module_area_shrinks : meets (start 8 []) (
     ∷ ("poll a", Is "ok 18 DataSave 1 0 fetch 2\n")
     ∷ ("area 1 -4096", Is "ok 4096\n") ∷ []
     ) ≡ true
-unfolding Script.computing hex_on_literals
+unfolding computing_script hex_on_literals
 module_area_shrinks = refl
 
 -- no room for a transmit, nor for the request of a file
@@ -138,7 +138,7 @@ pub busy_pool_with_scrap : meets (start 8 []) (
     ∷ ("poll a", Is "ok 0\n")
     ∷ ("poll b", Is "ok 19 RAMFetch 2 1 failed NoRoom\n") ∷ []
     ) ≡ true
-unfolding Script.computing hex_on_literals
+unfolding computing_script hex_on_literals
 busy_pool_with_scrap = refl
 
 -- what is busy, and until when
@@ -159,7 +159,7 @@ pub busy_with_scrap : meets (start 64 []) (
     ∷ ("poll a", Is "ok 0\n")
     ∷ ("poll b", Is "ok 19 RAMFetch 2 1 asked 3\n") ∷ []
     ) ≡ true
-unfolding Script.computing hex_on_literals
+unfolding computing_script hex_on_literals
 busy_with_scrap = refl
 
 -- a DataSave that is not granted all three changes nothing
@@ -176,7 +176,7 @@ pub ungranted_document : meets (start 8 []) (
     ∷ ("poll b", Is "ok 0\n")
     ∷ ("poll a", Is "ok 19 DataSave 1 0 failed\n") ∷ []
     ) ≡ true
-unfolding Script.computing hex_on_literals
+unfolding computing_script hex_on_literals
 ungranted_document = refl
 
 -- no room for the bytes of a transmit
@@ -197,7 +197,7 @@ pub document_cannot_grow : meets (start 8 []) (
     ∷ ("poll a", Is "ok 19 RAMTransmit 5 4 failed\n")
     ∷ ("status a", Has "out failed 1 200") ∷ []
     ) ≡ true
-unfolding Script.computing hex_on_literals
+unfolding computing_script hex_on_literals
 document_cannot_grow = refl
 
 -- a fetch sent twice is answered once
@@ -217,7 +217,7 @@ pub repeated_fetch : meets (start 64 []) (
     ∷ ("poll b", Is "ok 17 RAMTransmit 6 5 took 50 done\n")
     ∷ ("status b", Has "in done 1 150") ∷ []
     ) ≡ true
-unfolding Script.computing hex_on_literals
+unfolding computing_script hex_on_literals
 repeated_fetch = refl
 
 -- a transmit sent twice is taken once
@@ -236,7 +236,7 @@ pub repeated_transmit : meets (start 64 []) (
     ∷ ("poll a", Is "ok 19 RAMTransmit 4 2 ignored\n")
     ∷ ("status a", Has "out done 1 150") ∷ []
     ) ≡ true
-unfolding Script.computing hex_on_literals
+unfolding computing_script hex_on_literals
 repeated_transmit = refl
 
 -- a transfer that was given up keeps its buffer until that comes back
@@ -256,7 +256,7 @@ pub cancel_drains : meets (start 64 []) (
     ∷ ("show b 3", Is "ok 4 0a0b0c0d\n")
     ∷ ("status b", Is "ok 2\n  out idle\n  in failed 1 0\n") ∷ []
     ) ≡ true
-unfolding Script.computing hex_on_literals
+unfolding computing_script hex_on_literals
 cancel_drains = refl
 
 -- it is given up once
@@ -270,7 +270,7 @@ pub cancel_while_draining : meets (start 64 []) (
     ∷ ("cancel b in", Is "refused NotOpen\n")
     ∷ ("status b", Has "in draining 1 0") ∷ []
     ) ≡ true
-unfolding Script.computing hex_on_literals
+unfolding computing_script hex_on_literals
 cancel_while_draining = refl
 
 -- two transfers at a time
@@ -296,7 +296,7 @@ pub two_transfers : meets (start 64 []) (
     ∷ ("show b 0", Is "ok 5 0102030405\n")
     ∷ ("cancel b in 2", Is "refused NotOpen\n") ∷ []
     ) ≡ true
-unfolding Script.computing hex_on_literals
+unfolding computing_script hex_on_literals
 two_transfers = refl
 
 -- eight transfers are open, and not one more
@@ -326,7 +326,7 @@ pub eight_open : meets (start 64 []) (
     ∷ ("status a", Has "out open 2 0")
     ∷ ("status a", Has "out open 9 0") ∷ []
     ) ≡ true
-unfolding Script.computing hex_on_literals
+unfolding computing_script hex_on_literals
 eight_open = refl
 
 -- a file in place of bytes
@@ -351,7 +351,7 @@ pub scrap_file : meets (start 64 []) (
     ∷ ("show b 0", Is "ok 5 68656c6c6f\n")
     ∷ ("heap b", Is "ok 3840 3820 3824\n") ∷ []
     ) ≡ true
-unfolding Script.computing hex_on_literals
+unfolding computing_script hex_on_literals
 scrap_file = refl
 
 -- one scrap file at a time, also where its sender dies
@@ -380,7 +380,7 @@ pub scrap_file_taken : meets (start 64 []) (
     ∷ ("status b", Is "ok 2\n  out idle\n  in failed 1 1\n  in failed 2 0\n")
     ∷ ("area 5 -4096", Is "ok 4096\n") ∷ []
     ) ≡ true
-unfolding Script.computing hex_on_literals
+unfolding computing_script hex_on_literals
 scrap_file_taken = refl
 
 -- the end of a recipient
@@ -396,7 +396,7 @@ pub death_of_a_recipient : meets (start 8 []) (
     ∷ ("kill b", Is "refused NoName\n")
     ∷ ("put a 0 0 00", Is "ok\n") ∷ []
     ) ≡ true
-unfolding Script.computing hex_on_literals
+unfolding computing_script hex_on_literals
 death_of_a_recipient = refl
 
 -- the end of a task that sent to itself
@@ -410,7 +410,7 @@ pub death_of_oneself : meets (start 64 []) (
     ∷ ("poll a", Is "ok 0\n")
     ∷ ("rma claim 60", Is "ok &1800014\n") ∷ []
     ) ≡ true
-unfolding Script.computing hex_on_literals
+unfolding computing_script hex_on_literals
 death_of_oneself = refl
 
 -- the end of a sender
@@ -427,7 +427,7 @@ pub deaths : meets (start 64 []) (
     ∷ ("status b", Has "in failed 1 100")
     ∷ ("task a 100", Is "ok 3\n") ∷ []
     ) ≡ true
-unfolding Script.computing hex_on_literals
+unfolding computing_script hex_on_literals
 deaths = refl
 
 -- the end of a receiver, and another task under its name
@@ -444,7 +444,7 @@ pub deaths_of_the_receiver : meets (start 64 []) (
     ∷ ("poll a", Is "ok 0\n")
     ∷ ("poll b", Is "ok 0\n") ∷ []
     ) ≡ true
-unfolding Script.computing hex_on_literals
+unfolding computing_script hex_on_literals
 deaths_of_the_receiver = refl
 
 -- the last ref is given once
@@ -455,7 +455,7 @@ pub used_up_refs : meets (start_with 64 [] 4294967295 4294967295) (
     ∷ ("save a 0 a doc", Is "ok 4294967295\n")
     ∷ ("repeat a", Is "refused NoRefs\n") ∷ []
     ) ≡ true
-unfolding Script.computing hex_on_literals
+unfolding computing_script hex_on_literals
 used_up_refs = refl
 
 -- at most 256 messages are live, held ones counted
@@ -469,5 +469,5 @@ pub used_up : meets (start 64 []) (
     ∷ ("repeat a", Is "refused QueueFull\n")
     ∷ ("poll b", Is "ok 18 DataSave 1 0 ignored\n") ∷ []
     ) ≡ true
-unfolding Script.computing hex_on_literals
+unfolding computing_script hex_on_literals
 used_up = refl

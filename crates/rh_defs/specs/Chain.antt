@@ -59,8 +59,3 @@ result_or old (Err refusal) = old
 abbrev pub no_answer : {A E : Type 0} → Result A E → Result (A × Unit {0}) E
 no_answer (Ok new) = Ok (new, tt)
 no_answer (Err refusal) = Err refusal
-
--- opens this file's words, for a proof that computes
-unfoldable pub computing : Unit {0}
-unfolding ◌>>=◌ ◌>>◌ refuse_if found_or or_else
-computing = tt

@@ -320,9 +320,3 @@ step d c = or_else (change d c) (λ refusal. (d, reply.Refused refusal))
 abbrev pub is_refused : Reply → Bool
 is_refused (reply.Refused refusal) = true
 is_refused said = false
-
--- opens this file's words, for a proof that computes
-unfoldable pub computing : Unit {0}
-unfolding start_task kill alloc load put free extend mid claim release resize budge pages_after change_module change_pages change_made make remove own_block
-    rma_claim rma_free rma_resize save repeat poll_taken poll cancel_in cancel_out
-computing = tt

@@ -182,8 +182,3 @@ unfoldable pub send_letter : Letter → Desk → Granted Desk
 send_letter l d = do
   sent ← post_send (free_pages d) l d.post
   Ok (with_task l.from (λ t. record t { last_sent = Some (l, sent.1) }) (with_post sent.0 d))
-
--- opens this file's words, for a proof that computes
-unfoldable pub computing : Unit {0}
-unfolding named idle_block idle_buffer with_task with_delivered send_letter
-computing = tt

@@ -1,5 +1,6 @@
 -- Definitions that no clause of a public function stands on: those of private functions, loops and proofs.
 pub mod BlankedBlocks
+pub mod Computing
 pub mod NamedParts
 pub mod NonePassing
 pub mod PostHandles

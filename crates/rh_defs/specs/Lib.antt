@@ -1,7 +1,7 @@
 -- What the calls of a desk's memory mean: definitions that compute, without any code.
 -- Read Chain and Pieces first, then Heap, Slot, Module, Messages, Post and Desk; *step* in Commands is one command.
 -- In all files `-` of naturals stops at 0 (3 - 5 is 0), and a list of ℕ is bytes where nothing else is said.
--- `_ ← step` in a `do`, or a step alone, counts for its refusal alone. *computing* at a file's end is for proofs alone.
+-- `_ ← step` in a `do`, or a step alone, counts for its refusal alone. What lies in Inner is for proofs alone.
 pub mod Chain
 pub mod Pieces
 pub mod Bytes

@@ -161,8 +161,3 @@ line_means line =
     if nat_lt longest_line (length line) then Err TooLong
     else if is_skipped (words_of line) then Ok None
     else (command_of (words_of line) >>= λ c. Ok (Some c))
-
--- opens this file's words, for a proof that computes
-unfoldable pub computing : Unit {0}
-unfolding is_decimal name_at number_at bytes_read_at delta_at is_address address_at leaf_at choice_at rows command_by line_means ◌>>=◌
-computing = tt

@@ -98,8 +98,3 @@ has_length b =
 -- the message that the bytes spell; else the first fault: of the length word, of the action, of the length for the action
 unfoldable pub decoded : List ℕ → Result Message MessageFault
 decoded b = if has_length b then message_in b (body_in b (word b 0)) else Err BadLength
-
--- opens this file's words, for a proof that computes
-unfoldable pub computing : Unit {0}
-unfolding decoded
-computing = tt

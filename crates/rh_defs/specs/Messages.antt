@@ -141,8 +141,3 @@ parcel_bytes link p = words (link ∷ code_number p.code ∷ []) ++ encoded p.me
 -- all bytes of the block
 unfoldable pub padded : ℕ → Parcel → List ℕ
 padded link p = with_part (zeros (block_room (parcel_size p.message))) 0 (parcel_bytes link p)
-
--- opens this file's words, for a proof that computes
-unfoldable pub computing : Unit {0}
-unfolding word_bytes body_bytes encoded parcel_bytes padded
-computing = tt

@@ -61,8 +61,3 @@ unfoldable pub module_need_pages : ℕ → Heap → Granted ℕ
 module_need_pages n h = do
   _ ← refuse_if (n == 0) BadSize
   Ok (pages_for (need n h))
-
--- opens this file's words, for a proof that computes
-unfoldable pub computing : Unit {0}
-unfolding module_claim module_free module_resize module_change module_need_pages
-computing = tt

@@ -195,8 +195,3 @@ post_death h post =
       seats = filter (λ (s : Seat). not (s.handle == h)) post.seats;
       queued = filter (λ (p : Parcel). not (p.to == h)) post.queued;
     }))
-
--- opens this file's words, for a proof that computes
-unfoldable pub computing : Unit {0}
-unfolding post_is_message post_is_live post_join sendable post_send post_send_pages post_poll post_death
-computing = tt

@@ -184,8 +184,3 @@ shown_at d name k offset n = do
   b ← slot_block k t.slot
   refuse_if (nat_lt (length b.here.bytes) (offset + n)) BadRange
   Ok (length b.here.bytes, take n (drop offset b.here.bytes))
-
--- opens this file's words, for a proof that computes
-unfoldable pub computing : Unit {0}
-unfolding show blocks heap status blocks_at heap_at status_at shown_at
-computing = tt

@@ -8,20 +8,6 @@ use Rattle.rh_defs.specs.Heap.{empty_heap}
 use Rattle.rh_defs.specs.Files.{FileList}
 use Rattle.rh_defs.specs.Desk.{Desk}
 use Rattle.rh_defs.specs.Commands.{step}
-use Rattle.rh_defs.specs.Chain as chain
-use Rattle.rh_defs.specs.Slot as slot
-use Rattle.rh_defs.specs.Module as module_area
-use Rattle.rh_defs.specs.Bytes as bytes
-use Rattle.rh_defs.specs.Messages as messages
-use Rattle.rh_defs.specs.Post as post
-use Rattle.rh_defs.specs.Sender as sender
-use Rattle.rh_defs.specs.Receiver as receiver
-use Rattle.rh_defs.specs.Desk as desk
-use Rattle.rh_defs.specs.Commands as commands
-use Rattle.rh_defs.specs.Questions as questions
-use Rattle.rh_defs.specs.OutgoingEvents as outgoing_events
-use Rattle.rh_defs.specs.IncomingEvents as incoming_events
-use Rattle.rh_defs.specs.Transfer as transfer
 
 -- the first desk: no task, one page in the module area, and the next handle and ref
 abbrev pub start_with : ℕ → FileList → ℕ → ℕ → Desk
@@ -50,8 +36,3 @@ after d (c ∷ commands) = after (step d c).0 commands
 abbrev pub replies : Desk → List Command → List Reply
 replies d [] = []
 replies d (c ∷ commands) = (step d c).1 ∷ replies (step d c).0 commands
-
--- opens all that a run computes with
-unfoldable pub computing : Unit {0}
-unfolding chain.computing slot.computing module_area.computing bytes.with_part messages.computing post.computing sender.computing receiver.computing desk.computing commands.computing questions.computing outgoing_events.computing incoming_events.computing transfer.computing
-computing = tt

@@ -8,9 +8,6 @@ use Rattle.rh_defs.specs.Line.{Meaning, line_means, longest_line}
 use Rattle.rh_defs.specs.Desk.{Desk}
 use Rattle.rh_defs.specs.Commands.{step}
 use Rattle.rh_defs.specs.Text.{reply_text, fault_text}
-use Rattle.rh_defs.specs.Line
-use Rattle.rh_defs.specs.Runs
-use Rattle.rh_defs.specs.Text
 
 -- a byte at the head of the first of these lines
 abbrev pub onto_line : ℕ → List (List ℕ) → List (List ℕ)
@@ -87,8 +84,3 @@ commands_in lines = filter_map (λ line. spelled (line_means line)) lines
     spelled : Meaning (Option Command) → Option Command
     spelled (Ok c) = c
     spelled (Err fault) = None
-
--- opens all that a script's text computes with
-unfoldable pub computing : Unit {0}
-unfolding Line.computing Runs.computing Text.computing
-computing = tt

@@ -237,8 +237,3 @@ slot_take_pages n s = do
 -- budging set, and the state before
 abbrev pub slot_set_budge : Bool → Slot → Slot × Bool
 slot_set_budge on s = (record s { budging = on }, s.budging)
-
--- opens this file's words, for a proof that computes
-unfoldable pub computing : Unit {0}
-unfolding slot_begin slot_alloc slot_block slot_size slot_address slot_free slot_extend slot_mid slot_put slot_read slot_claim slot_release slot_resize slot_take_pages
-computing = tt

@@ -208,8 +208,3 @@ unfoldable pub reply_text : Desk → Command → Reply → List ℕ
 reply_text d (command.Ask q) r =
     if can_be_asked q && begins (asked d q) r then answer_text (asked d q) else first_line r Nothing
 reply_text d c r = first_line r Nothing
-
--- opens this file's words, for a proof that computes
-unfoldable pub computing : Unit {0}
-unfolding digits address fault_text first_line later_lines answer_text reply_text
-computing = tt

@@ -4,7 +4,7 @@ use Rattle.rh_laws.proofs.Common.{Incoming, Granted, ◌>>=◌, found_or, or_els
 use Rattle.rh_defs.specs.declared.reply.Reply.TheVariants as reply
 use Rattle.rh_defs.specs.declared.transfer.Incoming.TheVariants as incoming
 use Rattle.rh_defs.specs.Receiver as receiver
-use Rattle.rh_defs.specs.Script
+use Rattle.rh_defs.specs.Inner.Computing.{computing_script}
 use Rattle.rh_laws.specs.Claimed.{IsAccounted, claimed, holders, size_at}
 
 -- ---- a block that is claimed beside a buffer
@@ -33,7 +33,7 @@ block_and_buffer : rows fetching (0x8114 ∷ 0x812c ∷ 0x813c ∷ []) ≡
     ∷ (record { size = Some 12; claim = None; holding = 1 })
     ∷ (record { size = None; claim = None; holding = 0 })
     ∷ []
-unfolding Script.computing hex_on_literals
+unfolding computing_script hex_on_literals
 block_and_buffer = refl
 
 -- the claimed block, made one of 30 bytes, moves above the buffer, and the transfer's end releases the buffer
@@ -42,7 +42,7 @@ moved_block : rows (fetching ++ "resize b &8114 10" ∷ "poll a" ∷ "poll b" �
     ∷ (record { size = None; claim = None; holding = 0 })
     ∷ (record { size = Some 36; claim = Some 36; holding = 0 })
     ∷ []
-unfolding Script.computing hex_on_literals
+unfolding computing_script hex_on_literals
 moved_block = refl
 
 -- ---- a cancel that ends the transfer and leaves its buffer
@@ -66,7 +66,7 @@ cancelled_so = or_else (cancels_record at_cancel (codes "b") None) (λ refusal. 
 -- the buffer's block is still there, which nobody claimed and no record holds
 leaked_buffer : row_of (task_at 2 cancelled_so.0) (claimed fresh (script fetching) 2 0x812c) 0x812c ≡
     record { size = Some 12; claim = None; holding = 0 }
-unfolding Script.computing hex_on_literals
+unfolding computing_script hex_on_literals
 leaked_buffer = refl
 
 -- such a block is not accounted for
@@ -75,5 +75,5 @@ wrong_law w = absurd (let z = w.count in omega (arith, z))
 
 -- as the definitions have it, the record keeps the buffer until its fetch comes back
 right_buffer : rows (fetching ++ "cancel b in" ∷ []) (0x812c ∷ []) ≡ (record { size = Some 12; claim = None; holding = 1 }) ∷ []
-unfolding Script.computing hex_on_literals
+unfolding computing_script hex_on_literals
 right_buffer = refl

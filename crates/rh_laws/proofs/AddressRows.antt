@@ -2,7 +2,7 @@
 use Rattle.rh_laws.proofs.Common.{◌≡◌, ℕ, List, [], ◌∷◌, ◌++◌, Option, Some, None, map, refl, ap, arith, hex_on_literals, String, Incoming, Parcel, Desk}
 use Rattle.rh_laws.proofs.Common.{Task, task_at, after, poll_taken, held, fresh, script}
 use Rattle.rh_defs.specs.declared.transfer.Incoming.TheVariants as incoming
-use Rattle.rh_defs.specs.Script
+use Rattle.rh_defs.specs.Inner.Computing.{computing_script}
 use Rattle.rh_safety.proofs.SafetyRows.{prefixes}
 use Rattle.rh_laws.specs.Addressed.{AgreesIn, Parties, addressed}
 
@@ -32,7 +32,7 @@ each_offer : addressed_each saved_on ≡
     ∷ (from_to 1 2 ∷ from_to 1 2 ∷ None ∷ [])
     ∷ (from_to 1 2 ∷ from_to 1 2 ∷ from_to 2 3 ∷ [])
     ∷ []
-unfolding Script.computing hex_on_literals
+unfolding computing_script hex_on_literals
 each_offer = refl
 
 -- ---- a task that takes the first message, whomever it is for
@@ -57,11 +57,11 @@ takes_any d (Some t) = (poll_taken d t (first_of d.post.queued)).0
 -- the third task's records after it polled so, and whom the transfer was offered to
 wrong_task : taking_of (task_at 3 (takes_any (after fresh (script offered_once)) (task_at 3 (after fresh (script offered_once)))))
     ≡ incoming.Fetching (record { id = 1; sender = 1; anchor = 0; buffer = 0x8114; count = 0; fetch = 2 }) ∷ []
-unfolding Script.computing hex_on_literals
+unfolding computing_script hex_on_literals
 wrong_task = refl
 
 offered_to_b : addressed fresh (script offered_once) 1 ≡ from_to 1 2
-unfolding Script.computing hex_on_literals
+unfolding computing_script hex_on_literals
 offered_to_b = refl
 
 -- the task that is offered to
@@ -83,10 +83,10 @@ wrong_law (incoming.Failed id k n) is = not_third is.0 is.1
 -- a poll of the third task takes nothing, and one of b the offer
 right_tasks : map (λ h. taking_of (task_at h (after fresh (script (offered_once ++ "poll c" ∷ "poll b" ∷ []))))) (2 ∷ 3 ∷ []) ≡
     (incoming.Fetching (record { id = 1; sender = 1; anchor = 0; buffer = 0x8114; count = 0; fetch = 2 }) ∷ []) ∷ [] ∷ []
-unfolding Script.computing hex_on_literals
+unfolding computing_script hex_on_literals
 right_tasks = refl
 
 -- what b holds in the end
 b_holds : held fresh (script (offered_once ++ "poll b" ∷ "poll a" ∷ "poll b" ∷ [])) 1 2 ≡ Some (7 ∷ 8 ∷ [])
-unfolding Script.computing hex_on_literals
+unfolding computing_script hex_on_literals
 b_holds = refl

@@ -11,7 +11,7 @@ use Rattle.rh_defs.specs.declared.transfer.Incoming.TheVariants as incoming
 use Rattle.rh_defs.specs.declared.transfer.Outgoing.TheVariants as outgoing
 use Rattle.rh_defs.specs.declared.transfer_action.TakeAction.TheVariants as take_action
 use Rattle.rh_defs.specs.Receiver as receiver
-use Rattle.rh_defs.specs.Script
+use Rattle.rh_defs.specs.Inner.Computing.{computing_script}
 use Rattle.rh_safety.specs.Counts.{is_done}
 use Rattle.rh_safety.specs.Offered.{offered}
 use Rattle.rh_safety.proofs.WrongBodies.{step_by}
@@ -32,12 +32,12 @@ taking_of (Some t) = t.taking
 -- a's record before that poll
 open_before : sending_of (task_at 1 (after fresh (script loaded_once))) ≡
     outgoing.Open (record { id = 1; recipient = 2; anchor = 0; count = 0; last = 4 }) ∷ []
-unfolding Script.computing hex_on_literals
+unfolding computing_script hex_on_literals
 open_before = refl
 
 -- what that poll answers
 told : (step (after fresh (script loaded_once)) (command.Poll (codes "a"))).1 ≡ reply.Event User action.DataLoadAck 5 4 outcome.Done
-unfolding Script.computing hex_on_literals
+unfolding computing_script hex_on_literals
 told = refl
 
 -- commands behind it: a's block and a itself go, and a new task takes its name
@@ -46,16 +46,16 @@ later = "poll a" ∷ "free a 0" ∷ "kill a" ∷ "task a 4" ∷ "poll b" ∷ []
 
 -- what b has then
 has_done : taking_of (task_at 2 (after fresh (script (loaded_once ++ later)))) ≡ incoming.Done 1 0 3 ∷ []
-unfolding Script.computing hex_on_literals
+unfolding computing_script hex_on_literals
 has_done = refl
 
 -- what it holds, and what was offered
 holds_all : held fresh (script (loaded_once ++ later)) 1 2 ≡ Some (7 ∷ 8 ∷ 9 ∷ [])
-unfolding Script.computing hex_on_literals
+unfolding computing_script hex_on_literals
 holds_all = refl
 
 was_offered : offered fresh (script (loaded_once ++ later)) 1 ≡ Some (7 ∷ 8 ∷ 9 ∷ [])
-unfolding Script.computing hex_on_literals
+unfolding computing_script hex_on_literals
 was_offered = refl
 
 -- ---- a receiver that tells its sender, and loads nothing
@@ -77,15 +77,15 @@ told_alone = record landed {
 -- a is told the same
 wrong_told : (step_by told_alone (run_of told_alone loaded_once).desk (command.Poll (codes "a"))).1 ≡
     reply.Event User action.DataLoadAck 5 4 outcome.Done
-unfolding Script.computing hex_on_literals
+unfolding computing_script hex_on_literals
 wrong_told = refl
 
 -- b's record doesn't say Done
 wrong_record : map is_done (taking_of (task_at 2 (run_of told_alone (loaded_once ++ "poll a" ∷ [])).desk)) ≡ false ∷ []
-unfolding Script.computing hex_on_literals
+unfolding computing_script hex_on_literals
 wrong_record = refl
 
 -- nor does it count what was offered
 wrong_taking : taking_of (task_at 2 (run_of told_alone (loaded_once ++ "poll a" ∷ [])).desk) ≡ incoming.Failed 1 0 0 ∷ []
-unfolding Script.computing hex_on_literals
+unfolding computing_script hex_on_literals
 wrong_taking = refl

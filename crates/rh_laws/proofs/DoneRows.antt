@@ -2,9 +2,9 @@
 use Rattle.rh_laws.proofs.Common.{Desk, EventCode, Has, Incoming, List, None, Option, Outgoing, Parcel, Recorded, Some, String, Task, User, [], after, ap}
 use Rattle.rh_laws.proofs.Common.{contains_of, fresh, hex_on_literals, inl, inr, map, refl, script, subst, sym, task_at, with_sending, ◌++◌, ◌∙◌, ◌∷◌, ◌≡◌}
 use Rattle.rh_safety.proofs.Basics.{has_of}
-use Rattle.rh_defs.specs.Script
 use Rattle.rh_defs.specs.declared.transfer.Incoming.TheVariants as incoming
 use Rattle.rh_defs.specs.declared.transfer.Outgoing.TheVariants as outgoing
+use Rattle.rh_defs.specs.Inner.Computing.{computing_script}
 use Rattle.rh_laws.specs.SendersDone.{Matches, WhereDone}
 
 abbrev sending_of : Option Task → List Outgoing
@@ -27,26 +27,26 @@ abbrev twice_sent : List String
 twice_sent = once_sent ++ "poll b" ∷ "poll a" ∷ []
 
 says_done : sending_of (task_at 1 (after fresh (script twice_sent))) ≡ outgoing.Done 1 6 ∷ []
-unfolding Script.computing hex_on_literals
+unfolding computing_script hex_on_literals
 says_done = refl
 
 still_fetches : taking_of (task_at 2 (after fresh (script twice_sent))) ≡
     incoming.Fetching (record { id = 1; sender = 1; anchor = 0; buffer = 33044; count = 4; fetch = 4 }) ∷ []
-unfolding Script.computing hex_on_literals
+unfolding computing_script hex_on_literals
 still_fetches = refl
 
 -- its last transmit is queued, which wants no answer
 on_its_way : codes_of (after fresh (script twice_sent)).post.queued ≡ User ∷ []
-unfolding Script.computing hex_on_literals
+unfolding computing_script hex_on_literals
 on_its_way = refl
 
 then_done : taking_of (task_at 2 (after fresh (script (twice_sent ++ "poll b" ∷ [])))) ≡ incoming.Done 1 0 6 ∷ []
-unfolding Script.computing hex_on_literals
+unfolding computing_script hex_on_literals
 then_done = refl
 
 -- where b cancels instead, its record drains, and fails by the same transmit
 gives_up : taking_of (task_at 2 (after fresh (script (twice_sent ++ "cancel b in" ∷ "poll b" ∷ [])))) ≡ incoming.Failed 1 0 4 ∷ []
-unfolding Script.computing hex_on_literals
+unfolding computing_script hex_on_literals
 gives_up = refl
 
 -- ---- a sender that says Done once it has sent a full buffer
@@ -58,16 +58,16 @@ abbrev wrong_record : Incoming
 wrong_record = incoming.Fetching (record { id = 1; sender = 1; anchor = 0; buffer = 33044; count = 0; fetch = 2 })
 
 wrong_sending : sending_of (task_at 1 wrong_desk) ≡ outgoing.Done 1 4 ∷ []
-unfolding Script.computing hex_on_literals
+unfolding computing_script hex_on_literals
 wrong_sending = refl
 
 wrong_taking : taking_of (task_at 2 wrong_desk) ≡ wrong_record ∷ []
-unfolding Script.computing hex_on_literals
+unfolding computing_script hex_on_literals
 wrong_taking = refl
 
 -- that transmit wants an answer
 wrong_queue : codes_of wrong_desk.post.queued ≡ Recorded ∷ []
-unfolding Script.computing hex_on_literals
+unfolding computing_script hex_on_literals
 wrong_queue = refl
 
 code-in : (ps : List Parcel) (p : Parcel) → Has p ps → Has p.code (codes_of ps)

@@ -8,7 +8,7 @@ use Rattle.rh_defs.specs.declared.command.Command.TheVariants as command
 use Rattle.rh_defs.specs.declared.transfer.Incoming.TheVariants as incoming
 use Rattle.rh_defs.specs.Receiver as receiver
 use Rattle.rh_defs.specs.IncomingEvents.{end_failed}
-use Rattle.rh_defs.specs.Script
+use Rattle.rh_defs.specs.Inner.Computing.{computing_script}
 use Rattle.rh_safety.specs.TaskRecords.{HoldsOne}
 use Rattle.rh_laws.specs.Frame.{FillsBuffer, actor, sent_in}
 
@@ -29,22 +29,22 @@ with_segments segments t = record t { slot = record t.slot { heap = record t.slo
 -- the poll fills the first five bytes of the buffer, and nothing else of the task that asked is changed
 filled_front : task_at 2 (step at_fetch (command.Poll (codes "a"))).0 ≡
     option_map (with_segments (Used (1 ∷ 2 ∷ 3 ∷ 4 ∷ 5 ∷ 0 ∷ 0 ∷ 0 ∷ 0 ∷ 0 ∷ 0 ∷ 0 ∷ []) ∷ [])) (task_at 2 at_fetch)
-unfolding Script.computing hex_on_literals
+unfolding computing_script hex_on_literals
 filled_front = refl
 
 five_sent : sent_in (step at_fetch (command.Poll (codes "a"))).1 ≡ Some 5
-unfolding Script.computing hex_on_literals
+unfolding computing_script hex_on_literals
 five_sent = refl
 
 -- a third task is as it was
 third_left : task_at 3 (step at_fetch (command.Poll (codes "a"))).0 ≡ task_at 3 at_fetch
-unfolding Script.computing hex_on_literals
+unfolding computing_script hex_on_literals
 third_left = refl
 
 -- whose commands are
 actors : actor (command.Free (codes "b") 7) at_fetch ∷ actor (command.Free (codes "d") 7) at_fetch
     ∷ actor (command.Make 1) at_fetch ∷ [] ≡ Some 2 ∷ None ∷ None ∷ []
-unfolding Script.computing hex_on_literals
+unfolding computing_script hex_on_literals
 actors = refl
 
 -- ---- a cancel that frees the buffer at once
@@ -72,13 +72,13 @@ claimed = "task a 4" ∷ "task b 4" ∷ "alloc a 0 6" ∷ "put a 0 0 01020304050
     ∷ "claim b 4" ∷ []
 
 wrong_before : heap_and_records early_free claimed ≡ Some (Used (0 ∷ 0 ∷ 0 ∷ 0 ∷ []) ∷ [], incoming.Failed 1 0 0 ∷ [])
-unfolding Script.computing hex_on_literals
+unfolding computing_script hex_on_literals
 wrong_before = refl
 
 -- the sender's poll writes into that block, though the receiver holds no buffer
 wrong_buffer : heap_and_records early_free (claimed ++ "poll a" ∷ []) ≡
     Some (Used (1 ∷ 2 ∷ 3 ∷ 4 ∷ []) ∷ [], incoming.Failed 1 0 0 ∷ [])
-unfolding Script.computing hex_on_literals
+unfolding computing_script hex_on_literals
 wrong_buffer = refl
 
 -- a transfer that drains keeps its buffer, and the block that was claimed is another
@@ -93,7 +93,7 @@ right_buffer : heap_and_records landed (claimed ++ "poll a" ∷ []) ≡ Some (
     fetch = 2;
   }) ∷ [],
 )
-unfolding Script.computing hex_on_literals
+unfolding computing_script hex_on_literals
 right_buffer = refl
 
 -- no buffer is filled of a task whose records have all ended
@@ -125,9 +125,9 @@ left_by kills = let d : Desk = after fresh (script two_tasks) in
     map (λ (t : Task). t.name) (or_else (kills d (codes "b")) (λ refusal. (d, reply.Refused refusal))).0.tasks
 
 wrong_kill : left_by kills_lower ≡ []
-unfolding Script.computing hex_on_literals
+unfolding computing_script hex_on_literals
 wrong_kill = refl
 
 right_kill : left_by kill ≡ codes "a" ∷ []
-unfolding Script.computing hex_on_literals
+unfolding computing_script hex_on_literals
 right_kill = refl

@@ -7,7 +7,7 @@ use Rattle.rh_defs.specs.declared.heap.HeapRefusal.TheVariants.{BadSize, NoRoom}
 use Rattle.rh_defs.specs.declared.question.Numbers.TheVariants as numbers
 use Rattle.rh_defs.specs.declared.reply.Reply.TheVariants as reply
 use Rattle.rh_defs.specs.Heap.{as_granted, claim_block}
-use Rattle.rh_defs.specs.Script
+use Rattle.rh_defs.specs.Inner.Computing.{computing_script}
 use Rattle.rh_laws.specs.HonestHeaps.{claim_answer, described, is_granted_within, used_bytes}
 
 -- ---- a heap of 56 bytes: blocks of 12 and 4 bytes with a hole of 8 between them, and a top of 8
@@ -38,7 +38,7 @@ task_claims : (described claims (codes "a") ≡ reply.Answered (numbers.HeapSums
     × (is_granted_within 3840 claims (codes "a") 3749 ≡ false)
     × (described (claim_answer claims (codes "a") 3748).0 (codes "a") ≡ reply.Answered (numbers.HeapSums 3840 0 0))
     × (is_granted_within 7936 claims (codes "a") 3749 ≡ true)
-unfolding Script.computing
+unfolding computing_script
 task_claims = (refl, refl, refl, refl, refl, refl, refl)
 
 -- ---- changed definitions

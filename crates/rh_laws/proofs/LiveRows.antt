@@ -4,9 +4,9 @@ use Rattle.rh_laws.proofs.Common.{fresh, has_of, held_by, hex_on_literals, inl, 
 use Rattle.rh_laws.proofs.Common.{ℕ, ◌++◌, ◌∷◌, ◌≡◌}
 use Rattle.std.specs.List.{flat_map}
 use Rattle.rh_defs.specs.Post.{put_down}
-use Rattle.rh_defs.specs.Script
 use Rattle.rh_defs.specs.declared.transfer.Incoming.TheVariants as incoming
 use Rattle.rh_defs.specs.declared.transfer.Outgoing.TheVariants as outgoing
+use Rattle.rh_defs.specs.Inner.Computing.{computing_script}
 use Rattle.rh_laws.specs.LiveEnds.{HasLiveEnds, IsAlive}
 use Rattle.rh_laws.specs.Progress.{IsAtRest}
 use Rattle.rh_laws.proofs.RestLaws.{rest-held}
@@ -45,17 +45,17 @@ offered_once = "task a 4" ∷ "task b 4" ∷ "alloc a 0 6" ∷ "save a 0 b doc" 
 
 -- a's record waits by its offer, which is queued
 offered : ends offered_once ≡ ((1 ∷ [], []) ∷ ([], []) ∷ [], ((2, (1, 0)) ∷ [], []))
-unfolding Script.computing hex_on_literals
+unfolding computing_script hex_on_literals
 offered = refl
 
 -- b's fetch is queued: a's record is answered by the message that b's waits by
 fetching : ends (offered_once ++ "poll b" ∷ []) ≡ ((1 ∷ [], []) ∷ ([], 2 ∷ []) ∷ [], ((1, (2, 1)) ∷ [], []))
-unfolding Script.computing hex_on_literals
+unfolding computing_script hex_on_literals
 fetching = refl
 
 -- a's first part is queued, which answers the fetch
 transmitted : ends (offered_once ++ "poll b" ∷ "poll a" ∷ []) ≡ ((3 ∷ [], []) ∷ ([], 2 ∷ []) ∷ [], ((2, (3, 2)) ∷ [], []))
-unfolding Script.computing hex_on_literals
+unfolding computing_script hex_on_literals
 transmitted = refl
 
 -- a task that answers no fetch holds it; its own record was only offered
@@ -63,7 +63,7 @@ abbrev file_offered : List String
 file_offered = "task a 4 file" ∷ "task b 4" ∷ "alloc a 0 6" ∷ "save a 0 b doc" ∷ "poll b" ∷ "poll a" ∷ []
 
 held : ends file_offered ≡ ((1 ∷ [], []) ∷ ([], 2 ∷ []) ∷ [], ([], (1, (2, 1)) ∷ []))
-unfolding Script.computing hex_on_literals
+unfolding computing_script hex_on_literals
 held = refl
 
 -- ---- a poll after which what was held is gone, where it goes back to its sender
@@ -79,12 +79,12 @@ taking_of None = []
 taking_of (Some t) = t.taking
 
 wrong_taking : taking_of (task_at 2 wrong_desk) ≡ wrong_record ∷ []
-unfolding Script.computing hex_on_literals
+unfolding computing_script hex_on_literals
 wrong_taking = refl
 
 -- nothing is queued or held
 wrong_post : IsAtRest wrong_desk.post
-unfolding Script.computing hex_on_literals
+unfolding computing_script hex_on_literals
 wrong_post = record { queue = refl; held = (refl, (refl, tt)) }
 
 none-alive : (post : Post) → IsAtRest post → {h other ref : ℕ} {A : Body → Type 0} {B : Parcel → Type 0} → IsAlive post h other ref A B → ⊥

@@ -5,7 +5,7 @@ use Rattle.hex.specs.Hex.{encode_with}
 use Rattle.rh_defs.specs.declared.command.Command.TheVariants as command
 use Rattle.rh_defs.specs.declared.command.Manner.TheVariants as manner
 use Rattle.rh_defs.specs.declared.fault.LineFault.TheVariants.{Word}
-use Rattle.rh_defs.specs.Line.{computing}
+use Rattle.rh_defs.specs.Inner.Computing.{computing_line}
 use Rattle.rh_laws.specs.Printer.{command_words, line_of, fits_a_line, has_sizes, can_be_spelled}
 
 -- ---- lines
@@ -49,15 +49,15 @@ too_many = refl
 
 -- an address without its `&` isn't read
 bare_address : line_means (codes "release a 100C") ≡ Err (Word 3)
-unfolding computing
+unfolding computing_line
 bare_address = refl
 
 -- nor is 0 with a sign the shortest word for 0
 signed_zero : line_means (codes "area 1 -0") ≡ Ok (Some (command.Area 1 (pos 0)))
-unfolding computing
+unfolding computing_line
 signed_zero = refl
 
 -- a manner that is printed for each task is one word too many
 plain_task : line_means (codes "task a 100 plain") ≡ Err (Word 4)
-unfolding computing
+unfolding computing_line
 plain_task = refl

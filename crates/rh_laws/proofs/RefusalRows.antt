@@ -11,7 +11,7 @@ use Rattle.rh_defs.specs.declared.command.Command.TheVariants as command
 use Rattle.rh_defs.specs.declared.command.Manner.TheVariants as manner
 use Rattle.rh_defs.specs.Sender as sender
 use Rattle.rh_defs.specs.Runs.{start}
-use Rattle.rh_defs.specs.Script
+use Rattle.rh_defs.specs.Inner.Computing.{computing_script}
 use Rattle.rh_laws.specs.RefusalOrder.{RefusalRow, first_refusal, refusal_number, refusal_in}
 use Rattle.rh_laws.specs.Conditions.{conditions}
 
@@ -48,7 +48,7 @@ names_and_files : says (start 64 ((codes "f", 1 ∷ 2 ∷ 3 ∷ []) ∷ [])) (
     ∷ ("repeat a", Some NothingSent)
     ∷ ("save a 0 q doc", Some NoTask) ∷ []
     ) ≡ true
-unfolding Script.computing
+unfolding computing_script
 names_and_files = refl
 
 -- blocks of a slot, ranges, and a heap that may not grow
@@ -73,13 +73,13 @@ slots : says (start 64 []) (
     ∷ ("budge a off", None)
     ∷ ("claim a 4000", Some NoBudge) ∷ []
     ) ≡ true
-unfolding Script.computing
+unfolding computing_script
 slots = refl
 
 -- a pool of 8 pages, whole or a byte too small
 whole_pool : (says (start 8 []) (("task a 100", None) ∷ ("alloc a 0 24568", None) ∷ ("claim a 4000", Some NoRoom) ∷ []) ≡ true)
     × (says (start 8 []) (("task a 100", None) ∷ ("alloc a 0 24569", Some NoRoom) ∷ []) ≡ true)
-unfolding Script.computing
+unfolding computing_script
 whole_pool = (refl, refl)
 
 -- blocks that a transfer uses, and cancels
@@ -103,7 +103,7 @@ transfers : says (start 64 []) (
     ∷ ("kill b", None)
     ∷ ("kill b", Some NoName) ∷ []
     ) ≡ true
-unfolding Script.computing
+unfolding computing_script
 transfers = refl
 
 -- the module area, which holds a message
@@ -120,7 +120,7 @@ module_area : says (start 8 []) (
     ∷ ("rma claim 0", Some BadSize)
     ∷ ("rma claim 2147483647", Some NoRoom) ∷ []
     ) ≡ true
-unfolding Script.computing
+unfolding computing_script
 module_area = refl
 
 -- areas made at run
@@ -138,7 +138,7 @@ made_areas : says (start 8 []) (
     ∷ ("area 256 99999", Some NoArea)
     ∷ ("area 6 -1", Some NoArea) ∷ []
     ) ≡ true
-unfolding Script.computing
+unfolding computing_script
 made_areas = refl
 
 -- handles, refs and numbers that are used up
@@ -150,7 +150,7 @@ used_up : (says (start_with 64 [] 4294967295 4294967295) (
     ∷ ("repeat a", Some NoRefs) ∷ []
     ) ≡ true)
     × (says (record (start 64 []) { next_area = 65535 }) (("make 1", None) ∷ ("make 1", Some NoNumbers) ∷ []) ≡ true)
-unfolding Script.computing
+unfolding computing_script
 used_up = (refl, refl)
 
 -- 32 tasks, 32 made areas, and 256 messages
@@ -170,7 +170,7 @@ full : (told_after (start 64 []) (numbered 0 (replicate 31 0)) (command.Task (co
     × (told_after (start 64 []) (replicate 32 (command.Make 1)) (command.Make 1) ≡ Some TooManyAreas)
     × (told_after (start 64 []) (sent_once ++ replicate 254 (command.Repeat (codes "a"))) (command.Repeat (codes "a")) ≡ None)
     × (told_after (start 64 []) (sent_once ++ replicate 255 (command.Repeat (codes "a"))) (command.Repeat (codes "a")) ≡ Some QueueFull)
-unfolding Script.computing
+unfolding computing_script
 full = (refl, refl, refl, refl, refl, refl)
 
 -- ---- several conditions at once
@@ -196,7 +196,7 @@ several : (all_refusals (conditions busy_source save_to_none) ≡ Busy ∷ NoTas
     × (refusal_in (step busy_source save_to_none).1 ≡ Some Busy)
     × (all_refusals (conditions small_pool far_outside) ≡ BadRange ∷ NoRoom ∷ [])
     × (refusal_in (step small_pool far_outside).1 ≡ Some BadRange)
-unfolding Script.computing
+unfolding computing_script
 several = (refl, refl, refl, refl)
 
 -- ---- changed commands
@@ -214,7 +214,7 @@ recipient_first d name k to leaf = do
   Ok (with_sending t.handle (sender.sending_offered (next_ref d) r.handle k) sent, reply.Sent (next_ref d))
 
 wrong_save : answered busy_source (recipient_first busy_source (codes "a") 0 (codes "q") (codes "x")) ≡ Some NoTask
-unfolding Script.computing
+unfolding computing_script
 wrong_save = refl
 
 -- a mid that asks for room before the range
@@ -227,7 +227,7 @@ room_first d name k offset by = do
   Ok (with_slot t.handle s d, reply.Done)
 
 wrong_mid : answered small_pool (room_first small_pool (codes "a") 0 9 (pos 100000)) ≡ Some NoRoom
-unfolding Script.computing
+unfolding computing_script
 wrong_mid = refl
 
 -- a free that doesn't ask whether a transfer uses the block
@@ -239,5 +239,5 @@ free_any d name k = do
 
 wrong_free : (answered busy_source (free_any busy_source (codes "a") 0) ≡ None)
     × (first_refusal (conditions busy_source (command.Free (codes "a") 0)) ≡ Some Busy)
-unfolding Script.computing
+unfolding computing_script
 wrong_free = (refl, refl)

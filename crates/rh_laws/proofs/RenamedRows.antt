@@ -5,7 +5,7 @@ use Rattle.rh_defs.specs.declared.command.Command.TheVariants as command
 use Rattle.rh_defs.specs.declared.question.Question.TheVariants as question
 use Rattle.rh_defs.specs.declared.reply.Reply.TheVariants as reply
 use Rattle.rh_defs.specs.Questions.{Listed}
-use Rattle.rh_defs.specs.Script
+use Rattle.rh_defs.specs.Inner.Computing.{computing_script}
 use Rattle.rh_laws.specs.Renaming.{renamed, renamed_command}
 
 -- what is listed of an answer, where it is bytes
@@ -30,16 +30,16 @@ abbrev sent_on : List String
 sent_on = "task a 4" ∷ "task b 4" ∷ "alloc a 0 3" ∷ "put a 0 0 0708" ∷ "save a 0 b x" ∷ "poll b" ∷ "poll a" ∷ "poll b" ∷ "show b 0" ∷ []
 
 came_over : shown (after fresh (script sent_on)) ≡ 7 ∷ 8 ∷ 0 ∷ []
-unfolding Script.computing hex_on_literals
+unfolding computing_script hex_on_literals
 came_over = refl
 
 came_over_renamed : shown (after fresh (map (renamed_command by_sixteen) (script sent_on))) ≡ 112 ∷ 128 ∷ 0 ∷ []
-unfolding Script.computing hex_on_literals
+unfolding computing_script hex_on_literals
 came_over_renamed = refl
 
 -- the replies tell nothing of the bytes
 same_replies : replies fresh (map (renamed_command by_sixteen) (script sent_on)) ≡ replies fresh (script sent_on)
-unfolding Script.computing hex_on_literals
+unfolding computing_script hex_on_literals
 same_replies = refl
 
 -- a task that begins after another's end has none of its bytes
@@ -47,7 +47,7 @@ abbrev after_a_death : List String
 after_a_death = "task a 4" ∷ "alloc a 0 3" ∷ "put a 0 0 0708" ∷ "kill a" ∷ "task b 4" ∷ "alloc b 0 3" ∷ []
 
 none_left : shown (after fresh (script after_a_death)) ≡ 0 ∷ 0 ∷ 0 ∷ []
-unfolding Script.computing hex_on_literals
+unfolding computing_script hex_on_literals
 none_left = refl
 
 -- ---- a put that ends at a zero byte
@@ -78,7 +78,7 @@ abbrev seven_eight : Command
 seven_eight = command.Put (98 ∷ []) 0 0 (7 ∷ 8 ∷ [])
 
 wrong_law : WrongSteps → ⊥
-unfolding Script.computing hex_on_literals
+unfolding computing_script hex_on_literals
 wrong_law law =
     let same : 1 ≡ 0 = ap (λ (a : Answer). slice_index (shown a.0) 0) (law no_seven refl (after fresh (script with_ones)) seven_eight) in
     absurd (omega (arith, same))

@@ -1,8 +1,8 @@
 -- Worked runs to rest, and a poll that does nothing with what it takes, on which rest_law fails.
 use Rattle.rh_laws.proofs.Common.{Bool, Desk, Has, Incoming, List, None, Option, Some, String, Task, [], after, contains_of, false, fresh, hex_on_literals, inl}
 use Rattle.rh_laws.proofs.Common.{is_open, map, post_poll, refl, script, subst, sym, task_at, true, with_delivered, ◌∙◌, ◌∷◌, ◌≡◌}
-use Rattle.rh_defs.specs.Script
 use Rattle.rh_defs.specs.Records.{is_going}
+use Rattle.rh_defs.specs.Inner.Computing.{computing_script}
 use Rattle.rh_laws.specs.Rest.{IsSettled}
 
 -- of each task's records, whether those that go out are open, and whether those that come in go on
@@ -11,24 +11,24 @@ records lines = map (λ (t : Task). (map is_open t.sending, map is_going t.takin
 
 -- six bytes by a buffer of four: b fetches, and at rest both have ended
 fetches : records ("task a 4" ∷ "task b 4" ∷ "alloc a 0 6" ∷ "save a 0 b doc" ∷ "poll b" ∷ []) ≡ (true ∷ [], []) ∷ ([], true ∷ []) ∷ []
-unfolding Script.computing hex_on_literals
+unfolding computing_script hex_on_literals
 fetches = refl
 
 fetched : records ("task a 4" ∷ "task b 4" ∷ "alloc a 0 6" ∷ "save a 0 b doc" ∷ "poll b" ∷ "poll a" ∷ "poll b" ∷ "poll a" ∷ "poll b" ∷ [])
     ≡ (false ∷ [], []) ∷ ([], false ∷ []) ∷ []
-unfolding Script.computing hex_on_literals
+unfolding computing_script hex_on_literals
 fetched = refl
 
 -- a receiver that was killed: the offer comes back
 killed : records ("task a 4" ∷ "task b 4" ∷ "alloc a 0 6" ∷ "save a 0 b doc" ∷ "poll b" ∷ "kill b" ∷ "poll a" ∷ "poll a" ∷ [])
     ≡ (false ∷ [], []) ∷ []
-unfolding Script.computing hex_on_literals
+unfolding computing_script hex_on_literals
 killed = refl
 
 -- a cancel of the receiver, where the sender answers no fetch: its record stays open
 stays_open : records ("task a 4 file" ∷ "task b 4" ∷ "alloc a 0 6" ∷ "save a 0 b doc" ∷ "poll b" ∷ "cancel b in" ∷ "poll a" ∷ "poll a" ∷ "poll b" ∷ [])
     ≡ (true ∷ [], []) ∷ ([], false ∷ []) ∷ []
-unfolding Script.computing hex_on_literals
+unfolding computing_script hex_on_literals
 stays_open = refl
 
 -- ---- a poll that does nothing with what it takes
@@ -45,11 +45,11 @@ going_at (Some t) = map is_going t.taking
 
 -- nothing is queued then, and b's record, whose fetch it was, goes on
 wrong_post : wrong_desk.post.queued ≡ []
-unfolding Script.computing hex_on_literals
+unfolding computing_script hex_on_literals
 wrong_post = refl
 
 wrong_records : going_at (task_at 2 wrong_desk) ≡ true ∷ []
-unfolding Script.computing hex_on_literals
+unfolding computing_script hex_on_literals
 wrong_records = refl
 
 -- so the law fails of it

@@ -10,9 +10,8 @@ use Rattle.rh_defs.specs.declared.transfer.Outgoing.TheVariants as outgoing
 use Rattle.rh_defs.specs.declared.transfer.Incoming.TheVariants as incoming
 use Rattle.rh_defs.specs.declared.transfer_action.TakeAction.TheVariants as take_action
 use Rattle.rh_defs.specs.Receiver as receiver
-use Rattle.rh_defs.specs.Script
-use Rattle.rh_defs.specs.Runs as runs
 use Rattle.rh_defs.specs.Runs.{start}
+use Rattle.rh_defs.specs.Inner.Computing.{computing_script, computing_runs}
 use Rattle.rh_safety.specs.Alternation.{all_granted}
 use Rattle.rh_safety.specs.Offered.{bytes_of_block}
 use Rattle.rh_laws.specs.ScrapTurns.{eight_polls}
@@ -50,11 +49,11 @@ block_of (Some t) k = bytes_of_block t.slot k
 pub eight_outcomes : map done_by (replies saved polls) ≡
     Some (outcome.Fetch 2) ∷ Some outcome.Ignored ∷ None ∷ None ∷ Some (outcome.Asked 3) ∷ Some (outcome.Saved 3 4)
     ∷ Some (outcome.Loaded 3) ∷ Some outcome.Done ∷ []
-unfolding runs.computing
+unfolding computing_runs
 eight_outcomes = refl
 
 pub all_are_granted : all_granted saved polls ≡ true
-unfolding runs.computing
+unfolding computing_runs
 all_are_granted = refl
 
 -- the records of both, and the receiver's document
@@ -63,7 +62,7 @@ ends_of d = (sending_of (task_at 1 d), taking_of (task_at 2 d), block_of (task_a
 
 pub both_done : ends_of (after saved polls) ≡
     (outgoing.Done 1 3 ∷ [], incoming.Done 1 0 3 ∷ [], Some (7 ∷ 8 ∷ 9 ∷ []))
-unfolding runs.computing
+unfolding computing_runs
 both_done = refl
 
 -- ---- a receiver that loads the file, and does not tell its sender
@@ -90,7 +89,7 @@ eight_in_turn = "task a 100 file" ∷ "task b 100" ∷ "alloc a 0 3" ∷ "save a
 
 right_end : ends_of (run_of landed eight_in_turn).desk ≡
     (outgoing.Done 1 3 ∷ [], incoming.Done 1 0 3 ∷ [], Some (0 ∷ 0 ∷ 0 ∷ []))
-unfolding Script.computing
+unfolding computing_script
 right_end = refl
 
 wrong_end : ends_of (run_of untold eight_in_turn).desk ≡ (
@@ -104,5 +103,5 @@ wrong_end : ends_of (run_of untold eight_in_turn).desk ≡ (
   incoming.Done 1 0 3 ∷ [],
   Some (0 ∷ 0 ∷ 0 ∷ []),
 )
-unfolding Script.computing
+unfolding computing_script
 wrong_end = refl

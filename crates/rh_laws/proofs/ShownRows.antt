@@ -5,7 +5,7 @@ use Rattle.rh_laws.proofs.Common.{slot_put, Some, String, subst, Task, task_at, 
 use Rattle.rh_defs.specs.declared.command.Command.TheVariants as command
 use Rattle.rh_defs.specs.declared.reply.Reply.TheVariants as reply
 use Rattle.rh_defs.specs.Runs.{start}
-use Rattle.rh_defs.specs.Script
+use Rattle.rh_defs.specs.Inner.Computing.{computing_script}
 use Rattle.rh_safety.proofs.SafetyRows.{prefixes}
 use Rattle.rh_laws.specs.Renaming.{renamed_command}
 use Rattle.rh_laws.specs.MayShow.{AreAmong, may_show, ShowsOwn}
@@ -42,16 +42,16 @@ each_may_show : may_show_each offered_once ≡
     ∷ ((0 ∷ 7 ∷ 8 ∷ 9 ∷ []) ∷ (0 ∷ 7 ∷ 8 ∷ 0 ∷ []) ∷ (0 ∷ []) ∷ [])
     ∷ ((0 ∷ 7 ∷ 8 ∷ 9 ∷ []) ∷ (0 ∷ 7 ∷ 8 ∷ 0 ∷ []) ∷ (0 ∷ []) ∷ [])
     ∷ []
-unfolding Script.computing hex_on_literals
+unfolding computing_script hex_on_literals
 each_may_show = refl
 
 b_has : blocks_of_two (after fresh (script offered_once)) ≡ (7 ∷ 8 ∷ 0 ∷ []) ∷ []
-unfolding Script.computing hex_on_literals
+unfolding computing_script hex_on_literals
 b_has = refl
 
 -- the first task loads a file of two bytes
 loaded : may_show (start 64 ((102 ∷ [], 5 ∷ 6 ∷ []) ∷ [])) (script ("task a 4" ∷ "load a 0 f" ∷ [])) 1 ≡ 0 ∷ 5 ∷ 6 ∷ []
-unfolding Script.computing hex_on_literals
+unfolding computing_script hex_on_literals
 loaded = refl
 
 -- a, which answers no fetch, is asked for a file: the scrap file waits for b with bytes that b may show
@@ -65,11 +65,11 @@ load_and_bytes None = []
 load_and_bytes (Some file) = file.load ∷ file.bytes
 
 file_bytes : load_and_bytes filed_once.scrap ≡ 4 ∷ 7 ∷ 8 ∷ []
-unfolding Script.computing hex_on_literals
+unfolding computing_script hex_on_literals
 file_bytes = refl
 
 load_waits : map (λ (p : Parcel). p.message.my_ref ∷ p.to ∷ []) filed_once.post.queued ≡ (4 ∷ 2 ∷ []) ∷ []
-unfolding Script.computing hex_on_literals
+unfolding computing_script hex_on_literals
 load_waits = refl
 
 -- ---- marks
@@ -82,20 +82,20 @@ marked =
     ∷ script ("save a 0 b x" ∷ "poll b" ∷ "poll a" ∷ "poll b" ∷ []))
 
 in_range_marked : all_in_range marked ≡ true
-unfolding Script.computing hex_on_literals in_range
+unfolding computing_script hex_on_literals in_range
 in_range_marked = refl
 
 marks_of_b : may_show fresh marked 2 ≡ 0 ∷ 2007 ∷ 2009 ∷ 1007 ∷ 1008 ∷ []
-unfolding Script.computing hex_on_literals
+unfolding computing_script hex_on_literals
 marks_of_b = refl
 
 -- the marks that b has, and the bytes
 marks_had : blocks_of_two (after fresh marked) ≡ (2007 ∷ 2009 ∷ []) ∷ (1007 ∷ 1008 ∷ []) ∷ []
-unfolding Script.computing hex_on_literals
+unfolding computing_script hex_on_literals
 marks_had = refl
 
 bytes_had : blocks_of_two (after fresh (map (renamed_command (λ mark. mark % 1000)) marked)) ≡ (7 ∷ 9 ∷ []) ∷ (7 ∷ 8 ∷ []) ∷ []
-unfolding Script.computing hex_on_literals
+unfolding computing_script hex_on_literals
 bytes_had = refl
 
 -- ---- a block that has what its pages had
@@ -118,11 +118,11 @@ wrong_desk =
     (or_else (wrong_alloc d (98 ∷ []) 0 (7 ∷ 8 ∷ 0 ∷ [])) (λ refusal. (d, reply.Refused refusal))).0
 
 wrong_blocks : blocks_of_two wrong_desk ≡ (7 ∷ 8 ∷ 0 ∷ []) ∷ []
-unfolding Script.computing hex_on_literals
+unfolding computing_script hex_on_literals
 wrong_blocks = refl
 
 new_may : may_show fresh (script ended) 2 ≡ 0 ∷ []
-unfolding Script.computing hex_on_literals
+unfolding computing_script hex_on_literals
 new_may = refl
 
 -- so the law fails of it

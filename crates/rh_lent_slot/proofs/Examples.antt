@@ -3,11 +3,10 @@ use Rattle.rh_lent_slot.proofs.Common.{◌≡◌, refl, ℕ, true, List, [], ◌
 use Rattle.rh_lent_slot.proofs.Common.{take, Ok, Err, sym, ap, ◌∙◌, new_slot, BadRange, first_pages, lent_memory_in}
 use Rattle.rh_lent_slot.proofs.Common.{pages_memory_over, free_in, slot_write}
 use Rattle.std.proofs.Math.Seq.{take-append_seam}
-use Rattle.rh_defs.specs.Chain as chain
 use Rattle.rh_defs.specs.Chain.{result_or}
 use Rattle.rh_defs.specs.Heap.{Used}
-use Rattle.rh_defs.specs.Slot as slot
 use Rattle.rh_defs.specs.Slot.{Slot, slot_read}
+use Rattle.rh_defs.specs.Inner.Computing.{computing_chain, computing_slot}
 use Rattle.rh_defs.proofs.SlotRows.{Alloc, Put, Claim, slot_after, hello}
 
 -- three pages and 100 bytes, of which a slot has one page
@@ -28,18 +27,18 @@ filled = slot_after new_slot (Alloc 0 5 ∷ Put 0 0 hello ∷ Claim 10 ∷ [])
 
 pub written_in_flex : slot_read 0 0 5 (result_or filled (slot_write 0x9009 (1 ∷ 2 ∷ []) filled))
     ≡ Ok (104 ∷ 1 ∷ 2 ∷ 108 ∷ 111 ∷ [])
-unfolding slot.computing chain.computing slot_write
+unfolding computing_slot computing_chain slot_write
 written_in_flex = refl
 
 pub written_past_flex : slot_write 0x900C (1 ∷ 2 ∷ []) filled ≡ Err BadRange
-unfolding slot.computing chain.computing slot_write
+unfolding computing_slot computing_chain slot_write
 written_past_flex = refl
 
 pub written_in_heap : (result_or filled (slot_write 0x811E (1 ∷ 2 ∷ []) filled)).heap.segments
     ≡ Used (0 ∷ 0 ∷ 0 ∷ 0 ∷ 0 ∷ 0 ∷ 0 ∷ 0 ∷ 0 ∷ 0 ∷ 1 ∷ 2 ∷ []) ∷ []
-unfolding slot.computing chain.computing slot_write
+unfolding computing_slot computing_chain slot_write
 written_in_heap = refl
 
 pub written_past_heap : slot_write 0x811F (1 ∷ 2 ∷ []) filled ≡ Err BadRange
-unfolding slot.computing chain.computing slot_write
+unfolding computing_slot computing_chain slot_write
 written_past_heap = refl

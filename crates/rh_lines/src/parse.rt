@@ -27,7 +27,7 @@ pub fn parse_line(line: &[u8]) -> Result<Option<Command>, LineFault>
 
 /// Reads a line as `parse_line` does, but puts a command in a place that is there, and answers whether the line has
 /// one. Where it has none, or a fault, the place keeps its command.
-#[tactic(auto, using(crate::proofs::LineLemmas::by_words), unfolding(rh_defs::specs::Chain::computing, rh_defs::specs::Line::line_means))]
+#[tactic(auto, using(crate::proofs::LineLemmas::by_words), unfolding(rh_defs::specs::Inner::Computing::computing_chain, rh_defs::specs::Line::line_means))]
 pub fn read_line(line: &[u8], command: &mut Command) -> Result<bool, LineFault>
     ensures means { if_placed result command.new ≡ line_means line.now }
     ensures in_range { OnFound result (IsTrue (in_range command.new)) }

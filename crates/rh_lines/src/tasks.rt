@@ -57,7 +57,7 @@ fn task_of(words: &LineWords<'_>, command: &mut Command) -> Result<(), LineFault
 }
 
 /// Whether a task is deaf, or one of files, where a fourth word says so.
-#[tactic(auto, unfolding(rh_defs::specs::Chain::computing))]
+#[tactic(auto, unfolding(rh_defs::specs::Inner::Computing::computing_chain))]
 fn deaf_at(words: &LineWords<'_>) -> Result<Option<bool>, LineFault>
     ensures { result ≡ value_at (Maybe (Choice (codes "deaf") (codes "file"))) words.now 4 }
 {
@@ -179,7 +179,7 @@ fn cancel_of(words: &LineWords<'_>, command: &mut Command) -> Result<(), LineFau
 
 /// The id of a cancel, which a fourth word may give.
 #[inline(always)]
-#[tactic(auto, unfolding(rh_defs::specs::Chain::computing))]
+#[tactic(auto, unfolding(rh_defs::specs::Inner::Computing::computing_chain))]
 fn id_of(words: &LineWords<'_>) -> Result<Option<Ref>, LineFault>
     ensures means { result ≡ value_at (Maybe RefForm) words.now 4 }
     ensures form { IfOk result (λ id. IsTrue (is_of (Maybe RefForm) id)) }

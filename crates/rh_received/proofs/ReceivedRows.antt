@@ -8,10 +8,10 @@ use Rattle.rh_defs.specs.Bytes.{word, part, word_bytes}
 use Rattle.rh_defs.specs.Desk.{Task, task_at}
 use Rattle.rh_defs.specs.Pieces.{zeros}
 use Rattle.rh_defs.specs.Runs.{after}
-use Rattle.rh_defs.specs.Script
 use Rattle.rh_defs.specs.Slot.{new_slot}
 use Rattle.rh_defs.specs.declared.command.Manner.TheVariants.{Plain}
 use Rattle.rh_defs.specs.declared.transfer.Incoming.TheVariants as incoming
+use Rattle.rh_defs.specs.Inner.Computing.{computing_script}
 use Rattle.rh_safety.specs.Held.{held, held_of}
 use Rattle.rh_safety.specs.Offered.{offered}
 use Rattle.rh_safety.proofs.Basics.{same_value}
@@ -56,7 +56,7 @@ nobody = record { handle = 0; name = []; buffer = 0; manner = Plain; slot = new_
 
 -- b has all of a's file, in the second slot of the store
 received_at_the_end : HasReceived fresh (script to_the_end) (shown_as to_the_end (zeros 4096 ∷ two_pages ∷ [])) 1 2 six
-unfolding Script.computing hex_on_literals
+unfolding computing_script hex_on_literals
 received_at_the_end = record {
   task = unwrap_or (task_at 2 (after fresh (script to_the_end))) nobody;
   live = refl;
@@ -73,7 +73,7 @@ received_at_the_end = record {
 }
 
 held_at_the_end : held fresh (script to_the_end) 1 2 ≡ Some six
-unfolding Script.computing hex_on_literals
+unfolding computing_script hex_on_literals
 held_at_the_end = refl
 
 -- ---- other bytes, and an edited document
@@ -94,15 +94,15 @@ abbrev edited : List ℕ
 edited = 1 ∷ 2 ∷ 3 ∷ 4 ∷ 5 ∷ 7 ∷ []
 
 wrong_held : held_in_spite put_after ≡ Some edited
-unfolding Script.computing hex_on_literals
+unfolding computing_script hex_on_literals
 wrong_held = refl
 
 right_held : held fresh (script put_after) 1 2 ≡ None
-unfolding Script.computing hex_on_literals
+unfolding computing_script hex_on_literals
 right_held = refl
 
 put_offered : offered fresh (script put_after) 1 ≡ Some six
-unfolding Script.computing hex_on_literals
+unfolding computing_script hex_on_literals
 put_offered = refl
 
 no_front : StartsWith six edited → ⊥

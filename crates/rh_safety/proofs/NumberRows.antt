@@ -7,10 +7,10 @@ use Rattle.rh_defs.specs.declared.command.Command.TheVariants as command
 use Rattle.rh_defs.specs.declared.refusal.Refusal.TheVariants.{TooManyAreas}
 use Rattle.rh_defs.specs.declared.reply.Reply.TheVariants as reply
 use Rattle.rh_defs.specs.Forms.{first_made}
-use Rattle.rh_defs.specs.Script
 use Rattle.rh_defs.specs.Desk.{most_made}
 use Rattle.rh_defs.specs.Post.{taken}
 use Rattle.rh_defs.specs.Runs.{replies}
+use Rattle.rh_defs.specs.Inner.Computing.{computing_script}
 use Rattle.rh_safety.specs.Numbers.{GoUp, handles_in, refs_in, areas_in}
 use Rattle.rh_safety.specs.Refs.{AllDiffer, live_refs}
 use Rattle.rh_safety.proofs.SafetyRows.{fresh, script}
@@ -23,16 +23,16 @@ numbered =
     ∷ "save a 0 b doc" ∷ "repeat a" ∷ []
 
 handles_go_up : flat_map handles_in (replies fresh (script numbered)) ≡ 1 ∷ 2 ∷ 3 ∷ []
-unfolding Script.computing hex_on_literals
+unfolding computing_script hex_on_literals
 handles_go_up = refl
 
 -- offer, fetch, transmit, fetch, offer, and the offer once more
 refs_go_up : flat_map refs_in (replies fresh (script numbered)) ≡ 1 ∷ 2 ∷ 3 ∷ 4 ∷ 5 ∷ 6 ∷ []
-unfolding Script.computing hex_on_literals
+unfolding computing_script hex_on_literals
 refs_go_up = refl
 
 areas_go_up : flat_map areas_in (replies fresh (script numbered)) ≡ 256 ∷ 257 ∷ []
-unfolding Script.computing hex_on_literals
+unfolding computing_script hex_on_literals
 areas_go_up = refl
 
 -- ---- an area that gets the number of one that was removed
@@ -52,7 +52,7 @@ replies_again d [] = []
 replies_again d (c ∷ commands) = (step_again d c).1 ∷ replies_again (step_again d c).0 commands
 
 wrong_number : flat_map areas_in (replies_again fresh (script numbered)) ≡ 256 ∷ 256 ∷ []
-unfolding Script.computing hex_on_literals
+unfolding computing_script hex_on_literals
 wrong_number = refl
 
 -- two equal numbers don't go up
@@ -66,12 +66,12 @@ abbrev offered_twice : List String
 offered_twice = "task a 4" ∷ "task c 4 deaf" ∷ "alloc a 0 6" ∷ "save a 0 c doc" ∷ "poll c" ∷ "repeat a" ∷ []
 
 one_held : live_refs (after fresh (script offered_twice)).post ≡ 2 ∷ 1 ∷ []
-unfolding Script.computing hex_on_literals
+unfolding computing_script hex_on_literals
 one_held = refl
 
 -- then that one goes back, and the copy is held
 one_back : live_refs (after fresh (script (offered_twice ++ "poll c" ∷ []))).post ≡ 1 ∷ 2 ∷ []
-unfolding Script.computing hex_on_literals
+unfolding computing_script hex_on_literals
 one_back = refl
 
 -- a task that still holds what has gone back
@@ -84,11 +84,11 @@ offered_once = "task a 4" ∷ "task c 4 deaf" ∷ "alloc a 0 6" ∷ "save a 0 c 
 
 wrong_refs : live_refs (let post = (after fresh (script offered_once)).post in
     taken 2 (goes_back_held 2 (held_by 2 post.seats) post)).0 ≡ 1 ∷ 1 ∷ []
-unfolding Script.computing hex_on_literals
+unfolding computing_script hex_on_literals
 wrong_refs = refl
 
 right_refs : live_refs (after fresh (script (offered_once ++ "poll c" ∷ []))).post ≡ 1 ∷ []
-unfolding Script.computing hex_on_literals
+unfolding computing_script hex_on_literals
 right_refs = refl
 
 -- two equal refs don't differ

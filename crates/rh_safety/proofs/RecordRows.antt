@@ -14,7 +14,7 @@ use Rattle.rh_defs.specs.Records.{asking_of}
 use Rattle.rh_defs.specs.Sender as sender
 use Rattle.rh_defs.specs.Receiver as receiver
 use Rattle.rh_defs.specs.Commands.{with_new_task}
-use Rattle.rh_defs.specs.Script
+use Rattle.rh_defs.specs.Inner.Computing.{computing_script}
 use Rattle.rh_safety.specs.Offered.{bytes_of_block}
 use Rattle.rh_safety.specs.Buffers.{bytes_of_buffer, failed_by}
 use Rattle.rh_safety.proofs.SafetyRows.{fresh, script}
@@ -50,7 +50,7 @@ two_transfers = "task a 4" ∷ "task b 4" ∷ "alloc a 0 6" ∷ "alloc a 1 9" �
     ∷ "poll b" ∷ "poll a" ∷ "poll b" ∷ []
 
 right_measures : measures (task_at 2 (run_of landed two_transfers).desk) ≡ (4, Some 4, Some 4) ∷ (0, Some 0, Some 4) ∷ []
-unfolding Script.computing hex_on_literals
+unfolding computing_script hex_on_literals
 right_measures = refl
 
 -- a receiver that makes no document
@@ -71,20 +71,20 @@ abbrev answered : List String
 answered = "task a 4" ∷ "task b 4" ∷ "alloc a 0 6" ∷ "save a 0 b x" ∷ "poll b" ∷ "poll a" ∷ []
 
 wrong_document : measures (task_at 2 (run_of no_document answered).desk) ≡ (0, None, Some 4) ∷ []
-unfolding Script.computing hex_on_literals
+unfolding computing_script hex_on_literals
 wrong_document = refl
 
 right_document : measures (task_at 2 (run_of landed answered).desk) ≡ (0, Some 0, Some 4) ∷ []
-unfolding Script.computing hex_on_literals
+unfolding computing_script hex_on_literals
 right_document = refl
 
 -- and its poll then answers that the block is missing
 wrong_poll : poll_fails no_document answered "b" ≡ Some NoBlock
-unfolding Script.computing hex_on_literals
+unfolding computing_script hex_on_literals
 wrong_poll = refl
 
 right_poll : poll_fails landed answered "b" ≡ None
-unfolding Script.computing hex_on_literals
+unfolding computing_script hex_on_literals
 right_poll = refl
 
 -- ---- counts
@@ -107,7 +107,7 @@ done_and_failed = "task a 4" ∷ "task b 4" ∷ "alloc a 0 6" ∷ "save a 0 b x"
     ∷ "poll b" ∷ "extend b 0 9" ∷ "save a 0 b y" ∷ "poll b" ∷ "poll a" ∷ "poll b" ∷ "cancel b in" ∷ []
 
 right_counts : counts landed done_and_failed 2 ≡ (true, 6, Some 6) ∷ (false, 4, Some 6) ∷ []
-unfolding Script.computing hex_on_literals
+unfolding computing_script hex_on_literals
 right_counts = refl
 
 -- a receiver that counts no byte of the file that it loads
@@ -129,11 +129,11 @@ by_file = "task a 100 file" ∷ "task b 100" ∷ "alloc a 0 3" ∷ "save a 0 b x
     ∷ "poll a" ∷ "poll b" ∷ []
 
 right_file_count : counts landed by_file 2 ≡ (true, 3, Some 3) ∷ []
-unfolding Script.computing hex_on_literals
+unfolding computing_script hex_on_literals
 right_file_count = refl
 
 wrong_file_count : counts uncounted by_file 2 ≡ (true, 0, Some 3) ∷ []
-unfolding Script.computing hex_on_literals
+unfolding computing_script hex_on_literals
 wrong_file_count = refl
 
 -- ---- names
@@ -147,13 +147,13 @@ abbrev one_more_a : Desk → Desk
 one_more_a d = with_new_task (codes "a") 4 manner.Plain new_slot d
 
 wrong_name : names_of (one_more_a (after fresh (script ("task a 4" ∷ [])))) ≡ (1, codes "a") ∷ (2, codes "a") ∷ []
-unfolding Script.computing hex_on_literals
+unfolding computing_script hex_on_literals
 wrong_name = refl
 
 -- the name is free again once its task has ended
 right_name : names_of (after fresh (script ("task a 4" ∷ "task a 4" ∷ "task b 4" ∷ "kill a" ∷ "task a 4" ∷ [])))
     ≡ (2, codes "b") ∷ (3, codes "a") ∷ []
-unfolding Script.computing hex_on_literals
+unfolding computing_script hex_on_literals
 right_name = refl
 
 -- ---- the scrap file
@@ -202,11 +202,11 @@ one_file = "task a 100 file" ∷ "task b 100" ∷ "alloc a 0 1" ∷ "alloc a 1 1
     ∷ "poll b" ∷ "poll a" ∷ "poll a" ∷ "poll b" ∷ "poll a" ∷ []
 
 right_owner : owners_at landed one_file 1 ≡ 1 ∷ []
-unfolding Script.computing hex_on_literals
+unfolding computing_script hex_on_literals
 right_owner = refl
 
 wrong_owner : owners_at saved_for_all one_file 1 ≡ 1 ∷ 2 ∷ []
-unfolding Script.computing hex_on_literals
+unfolding computing_script hex_on_literals
 wrong_owner = refl
 
 -- ---- its DataLoad
@@ -221,17 +221,17 @@ saved_file = "task a 100 file" ∷ "task b 100" ∷ "alloc a 0 1" ∷ "save a 0 
     ∷ "poll a" ∷ []
 
 right_load : waits_for_load (after fresh (script saved_file)) ≡ Some true
-unfolding Script.computing hex_on_literals
+unfolding computing_script hex_on_literals
 right_load = refl
 
 -- the DataLoad is on its way back
 right_return : waits_for_load (after fresh (script (saved_file ++ "kill b" ∷ []))) ≡ Some true
-unfolding Script.computing hex_on_literals
+unfolding computing_script hex_on_literals
 right_return = refl
 
 -- and then the file is given up
 right_end : waits_for_load (after fresh (script (saved_file ++ "kill b" ∷ "poll a" ∷ []))) ≡ None
-unfolding Script.computing hex_on_literals
+unfolding computing_script hex_on_literals
 right_end = refl
 
 -- a poll that keeps the scrap file whatever message it takes
@@ -239,5 +239,5 @@ abbrev polled_with_file : ℕ → Desk → Desk
 polled_with_file h d = with_post (post_poll h d.post).0 d
 
 wrong_load : waits_for_load (polled_with_file 1 (after fresh (script (saved_file ++ "kill b" ∷ [])))) ≡ Some false
-unfolding Script.computing hex_on_literals
+unfolding computing_script hex_on_literals
 wrong_load = refl

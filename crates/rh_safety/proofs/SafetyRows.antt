@@ -1,9 +1,9 @@
 -- Worked runs: what is offered and what is held after each command.
 use Rattle.rh_safety.proofs.Common.{◌≡◌, refl, ℕ, List, [], ◌∷◌, length, map, codes, true, Option, Some, None, Ok, Err, filter_map, hex_on_literals, String}
 use Rattle.rh_safety.proofs.Common.{Command, Desk, after}
-use Rattle.rh_defs.specs.Script
 use Rattle.rh_defs.specs.Line.{Meaning, line_means}
 use Rattle.rh_defs.specs.Runs.{start}
+use Rattle.rh_defs.specs.Inner.Computing.{computing_script}
 use Rattle.rh_safety.specs.Offered.{offered}
 use Rattle.rh_safety.specs.Held.{held}
 use Rattle.rh_safety.specs.Alternation.{turns, all_granted}
@@ -59,13 +59,13 @@ pub two_buffers : shown (
     ∷ (Some (1 ∷ 2 ∷ 3 ∷ 4 ∷ 5 ∷ 6 ∷ []), Some (1 ∷ 2 ∷ 3 ∷ 4 ∷ 5 ∷ 6 ∷ []))
     ∷ (None, Some (1 ∷ 2 ∷ 3 ∷ 4 ∷ 5 ∷ 6 ∷ []))
     ∷ []
-unfolding Script.computing hex_on_literals
+unfolding computing_script hex_on_literals
 two_buffers = refl
 
 -- a block that is saved again by the same message offers the same bytes under the new ref
 pub repeated_offer : offered fresh (script ("task a 100" ∷ "task b 100" ∷ "alloc a 0 2" ∷ "put a 0 0 0102"
     ∷ "save a 0 b x" ∷ "repeat a" ∷ [])) 2 ≡ Some (1 ∷ 2 ∷ [])
-unfolding Script.computing hex_on_literals
+unfolding computing_script hex_on_literals
 repeated_offer = refl
 
 -- three bytes by the scrap file
@@ -81,13 +81,13 @@ pub by_scrap_file : held fresh (script (
     ∷ "poll b"
     ∷ "poll a"
     ∷ "poll b" ∷ [])) 1 2 ≡ Some (7 ∷ 8 ∷ 9 ∷ [])
-unfolding Script.computing hex_on_literals
+unfolding computing_script hex_on_literals
 by_scrap_file = refl
 
 -- six bytes by a buffer of four: after the save, five polls in turn are refused nothing
 pub granted_turns : all_granted (after fresh (script ("task a 4" ∷ "task b 4" ∷ "alloc a 0 6" ∷ "save a 0 b doc"
     ∷ []))) (turns (codes "b") (codes "a") 2) ≡ true
-unfolding Script.computing hex_on_literals
+unfolding computing_script hex_on_literals
 granted_turns = refl
 
 -- three rounds are seven polls

@@ -24,7 +24,7 @@ use Rattle.rh_defs.specs.Places.{written_in}
 use Rattle.rh_defs.specs.OutgoingEvents.{is_bad_range}
 use Rattle.rh_defs.specs.IncomingEvents.{end_failed}
 use Rattle.rh_defs.specs.Commands.{event}
-use Rattle.rh_defs.specs.Script
+use Rattle.rh_defs.specs.Inner.Computing.{computing_script}
 use Rattle.rh_safety.specs.Offered.{offers_next}
 use Rattle.rh_safety.specs.Held.{edits_next, held_of}
 use Rattle.rh_safety.specs.Buffers.{bytes_of_buffer}
@@ -128,14 +128,14 @@ twice_fetched = "task a 4" ∷ "task b 4" ∷ "alloc a 0 6" ∷ "put a 0 0 01020
     ∷ "repeat b" ∷ "poll a" ∷ "poll a" ∷ "poll b" ∷ []
 
 right_fetch : held_offered landed twice_fetched 1 2 ≡ (Some (1 ∷ 2 ∷ 3 ∷ 4 ∷ []), Some (1 ∷ 2 ∷ 3 ∷ 4 ∷ 5 ∷ 6 ∷ []))
-unfolding Script.computing hex_on_literals
+unfolding computing_script hex_on_literals
 right_fetch = refl
 
 wrong_fetch : held_offered any_fetch twice_fetched 1 2 ≡ (
   Some (5 ∷ 6 ∷ 3 ∷ 4 ∷ []),
   Some (1 ∷ 2 ∷ 3 ∷ 4 ∷ 5 ∷ 6 ∷ []),
 )
-unfolding Script.computing hex_on_literals
+unfolding computing_script hex_on_literals
 wrong_fetch = refl
 
 -- ---- a sender that counts itself done when it sends
@@ -187,14 +187,14 @@ right_count : sent_offered landed first_buffer 1 1 ≡ (
   }) ∷ [],
   Some (1 ∷ 2 ∷ 3 ∷ 4 ∷ 5 ∷ 6 ∷ []),
 )
-unfolding Script.computing hex_on_literals
+unfolding computing_script hex_on_literals
 right_count = refl
 
 wrong_count : sent_offered done_when_sent first_buffer 1 1 ≡ (
   outgoing.Done 1 4 ∷ [],
   Some (1 ∷ 2 ∷ 3 ∷ 4 ∷ 5 ∷ 6 ∷ []),
 )
-unfolding Script.computing hex_on_literals
+unfolding computing_script hex_on_literals
 wrong_count = refl
 
 -- ---- a sender for which a full last buffer ends the transfer
@@ -227,7 +227,7 @@ one_buffer = "task a 4" ∷ "task b 4" ∷ "alloc a 0 4" ∷ "save a 0 b doc" �
     ∷ "poll b" ∷ []
 
 right_end : ends_of landed one_buffer ≡ (outgoing.Done 1 4 ∷ [], incoming.Done 1 0 4 ∷ [])
-unfolding Script.computing hex_on_literals
+unfolding computing_script hex_on_literals
 right_end = refl
 
 wrong_end : ends_of full_ends one_buffer ≡ (
@@ -241,7 +241,7 @@ wrong_end : ends_of full_ends one_buffer ≡ (
     fetch = 4;
   }) ∷ [],
 )
-unfolding Script.computing hex_on_literals
+unfolding computing_script hex_on_literals
 wrong_end = refl
 
 -- ---- a save of a document that grows
@@ -270,11 +270,11 @@ wrong_save : held_offered save_of_a_document saved_while_fetched 5 3 ≡ (
   Some (1 ∷ 2 ∷ 3 ∷ 4 ∷ 5 ∷ 6 ∷ []),
   Some (1 ∷ 2 ∷ 3 ∷ 4 ∷ []),
 )
-unfolding Script.computing hex_on_literals
+unfolding computing_script hex_on_literals
 wrong_save = refl
 
 right_save : held_offered landed saved_while_fetched 5 3 ≡ (None, None)
-unfolding Script.computing hex_on_literals
+unfolding computing_script hex_on_literals
 right_save = refl
 
 -- b saves on to c what it asks a for
@@ -285,11 +285,11 @@ saved_while_asked =
     ∷ "poll c" ∷ []
 
 wrong_asked : held_offered save_of_a_document saved_while_asked 4 3 ≡ (Some (1 ∷ 2 ∷ 3 ∷ []), Some [])
-unfolding Script.computing hex_on_literals
+unfolding computing_script hex_on_literals
 wrong_asked = refl
 
 right_asked : held_offered landed saved_while_asked 4 3 ≡ (None, None)
-unfolding Script.computing hex_on_literals
+unfolding computing_script hex_on_literals
 right_asked = refl
 
 -- ---- a scrap file of any transfer
@@ -336,11 +336,11 @@ two_files =
     ∷ "poll a" ∷ "poll a" ∷ "poll c" ∷ "poll c" ∷ "poll b" ∷ "poll b" ∷ "poll a" ∷ "poll c" ∷ "poll b" ∷ []
 
 wrong_file : held_offered any_scrap_file two_files 1 2 ≡ (Some (8 ∷ []), Some (7 ∷ []))
-unfolding Script.computing hex_on_literals
+unfolding computing_script hex_on_literals
 wrong_file = refl
 
 right_file : held_offered landed two_files 1 2 ≡ (Some (7 ∷ []), Some (7 ∷ []))
-unfolding Script.computing hex_on_literals
+unfolding computing_script hex_on_literals
 right_file = refl
 
 -- ---- buffers that go too early
@@ -396,11 +396,11 @@ abbrev cancelled_fetch : List String
 cancelled_fetch = "task a 100" ∷ "task b 100" ∷ "alloc a 0 5" ∷ "save a 0 b doc" ∷ "poll b" ∷ "cancel b in" ∷ []
 
 wrong_cancel : has_buffers (run_of early_free cancelled_fetch).desk ≡ false
-unfolding Script.computing hex_on_literals
+unfolding computing_script hex_on_literals
 wrong_cancel = refl
 
 right_cancel : has_buffers (run_of landed cancelled_fetch).desk ≡ true
-unfolding Script.computing hex_on_literals
+unfolding computing_script hex_on_literals
 right_cancel = refl
 
 -- a receiver for which a transfer that drains is over
@@ -444,9 +444,9 @@ nine_transfers =
     ∷ "save c 0 b y" ∷ "poll b" ∷ []
 
 wrong_draining : has_buffers (run_of draining_takes nine_transfers).desk ≡ false
-unfolding Script.computing hex_on_literals
+unfolding computing_script hex_on_literals
 wrong_draining = refl
 
 right_draining : has_buffers (run_of landed nine_transfers).desk ≡ true
-unfolding Script.computing hex_on_literals
+unfolding computing_script hex_on_literals
 right_draining = refl

@@ -2,9 +2,8 @@
 use Rattle.rh_tasks.proofs.Common.{◌≡◌, refl, [], ◌∷◌, codes, true, None, Ok, Err, NoName, Slot, Desk, Task, segment_items_at}
 use Rattle.rh_defs.specs.declared.command.Manner.TheVariants.{Plain}
 use Rattle.rh_defs.specs.declared.question.SegmentItem.TheVariants.{Used, Hole}
-use Rattle.rh_defs.specs.Chain as chain
-use Rattle.rh_defs.specs.Desk as desk
 use Rattle.rh_defs.specs.Runs.{start}
+use Rattle.rh_defs.specs.Inner.Computing.{computing_chain, computing_desk}
 use Rattle.rh_defs.proofs.BlockRows.{two_blocks}
 use Rattle.rh_tasks.specs.WorldLists.{blocks_of, segments_of}
 
@@ -21,20 +20,20 @@ one_task = record (start 8 []) { tasks = task_a ∷ [] }
 
 pub listed_blocks : blocks_of one_task (codes "a") ≡ Ok (record { anchor = 7; address = 0x8138; size = 5 } ∷ record
     { anchor = 1; address = 0x8148; size = 0 } ∷ [])
-unfolding chain.computing desk.computing blocks_of
+unfolding computing_chain computing_desk blocks_of
 listed_blocks = refl
 
 pub blocks_of_nobody : blocks_of one_task (codes "b") ≡ Err NoName
-unfolding chain.computing desk.computing blocks_of
+unfolding computing_chain computing_desk blocks_of
 blocks_of_nobody = refl
 
 pub items_from_the_first : segment_items_at 16 two_blocks ≡ Used 0x8114 4 ∷ Hole 0x8118 8 ∷ Used 0x8124 4 ∷ []
 items_from_the_first = refl
 
 pub listed_segments : segments_of one_task (codes "a") 24 ≡ Ok (Hole 0x8118 8 ∷ Used 0x8124 4 ∷ [])
-unfolding chain.computing desk.computing segments_of
+unfolding computing_chain computing_desk segments_of
 listed_segments = refl
 
 pub segments_of_nobody : segments_of one_task (codes "b") 24 ≡ Err NoName
-unfolding chain.computing desk.computing segments_of
+unfolding computing_chain computing_desk segments_of
 segments_of_nobody = refl
