@@ -10,7 +10,7 @@ use Rattle.rh_heap.specs.HeapCalls.{LeavesHeap}
 use Rattle.rh_heap.specs.HeapSpans.{OnlySpan}
 use Rattle.rh_heap.specs.HeapWays.{WayOf, SpellsResized, short_by, ShortBy}
 use Rattle.rh_heap.specs.Inner.WayEnds.{Changed, NotChanged, Moved}
-use Rattle.rh_heap.specs.declared.span.resize.Way.TheVariants as way
+use Rattle.rh_heap.specs.declared.span.resize.ResizeWay.TheVariants as way
 use Rattle.rh_heap.proofs.CallLaws.{leaves, refuses}
 use Rattle.rh_heap.proofs.WayLaws.{cut_of, at_cut, from_cut, at_place}
 use Rattle.rh_heap.proofs.MoveLaws.{short_stays, short_shrinks, short_into, short_top, short_moves, resized_moves, same_way, address_stays, address_shrinks}

@@ -7,7 +7,7 @@ use Rattle.rh_heap.proofs.Common.{total-append, tidy_behind_used, tidy_behind_ho
 use Rattle.rh_heap.proofs.Common.{bit, once, used_at, hole_at, IsIndex, Became, Spot, Gap, USED, HOLES}
 use Rattle.rh_defs.specs.Heap as heap
 use Rattle.rh_defs.proofs.HeapLists.{HasRoom-join}
-use Rattle.rh_heap.specs.declared.span.resize.Way.TheVariants as way
+use Rattle.rh_heap.specs.declared.span.resize.ResizeWay.TheVariants as way
 use Rattle.rh_heap.specs.Inner.StartNotes.{Noted}
 use Rattle.rh_heap.proofs.ReleaseLaws.{released_is}
 use Rattle.rh_heap.proofs.ClaimLaws.{placed_found, placed_none}

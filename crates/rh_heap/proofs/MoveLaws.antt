@@ -15,7 +15,7 @@ use Rattle.rh_defs.proofs.HeapFaults.{le_from}
 use Rattle.rh_defs.proofs.HeapStretch.{filled}
 use Rattle.rh_heap.specs.HeapWays.{short_by}
 use Rattle.rh_heap.specs.Inner.WayEnds.{Moved}
-use Rattle.rh_heap.specs.declared.span.resize.Way.TheVariants as way
+use Rattle.rh_heap.specs.declared.span.resize.ResizeWay.TheVariants as way
 use Rattle.rh_heap.proofs.StretchLaws.{but_body, word_below, LinksTo-kept}
 use Rattle.rh_heap.proofs.FillLaws.{part_above}
 use Rattle.rh_heap.proofs.BlockLaws.{zeros_long}

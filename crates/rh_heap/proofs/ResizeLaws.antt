@@ -8,7 +8,7 @@ use Rattle.std.proofs.lemmas.List.{take_all, take-append-le}
 use Rattle.rh_defs.specs.Heap.{joined}
 use Rattle.rh_defs.specs.Heap as heap
 use Rattle.rh_defs.proofs.HeapLists.{tidy_other, joined-tidy, joined-front}
-use Rattle.rh_heap.specs.declared.span.resize.Way.TheVariants as way
+use Rattle.rh_heap.specs.declared.span.resize.ResizeWay.TheVariants as way
 use Rattle.rh_heap.proofs.StretchLaws.{is_stretch}
 use Rattle.rh_heap.proofs.FillLaws.{filled_between, topped, part_above}
 use Rattle.rh_heap.proofs.WayLaws.{cut_of, at_cut, from_cut, found_is, WayFacts, if_stays, if_shrinks, if_into, if_top, if_to_hole, if_to_top, way_facts}

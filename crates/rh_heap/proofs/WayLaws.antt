@@ -8,8 +8,8 @@ use Rattle.rh_defs.specs.Heap.{place_after, way_to_grow, way_beyond}
 use Rattle.rh_defs.specs.Heap as heap
 use Rattle.rh_defs.proofs.HeapLists.{leb_yes}
 use Rattle.rh_heap.specs.HeapWays.{stays, shrinks, at_top, to_hole, to_top}
-use Rattle.rh_heap.specs.declared.span.resize.Way.{Way}
-use Rattle.rh_heap.specs.declared.span.resize.Way.TheVariants as way
+use Rattle.rh_heap.specs.declared.span.resize.ResizeWay.{ResizeWay}
+use Rattle.rh_heap.specs.declared.span.resize.ResizeWay.TheVariants as way
 use Rattle.rh_heap.proofs.StretchLaws.{next_range}
 
 pub at_place : {at : ℕ} {h : Heap} {address : ℕ} {spot : Spot} → FoundBlock at h address spot → FoundBlock at h (spot.place + 4) spot
@@ -159,7 +159,7 @@ module _ (b : List ℕ) (at : ℕ) (h : Heap) (spot : Spot) (s : Spells b at h) 
 
   -- the way that the code finds
   module _ (t : ℕ) where
-    abbrev is_way : Way → Type 0
+    abbrev is_way : ResizeWay → Type 0
     is_way w = WithBlock spot h (λ s. WayIs (way_to t s h) w)
 
     pub finds_stays : t ≡ spot.size → is_way way.Stays
@@ -170,7 +170,7 @@ module _ (b : List ℕ) (at : ℕ) (h : Heap) (spot : Spot) (s : Spells b at h) 
     finds_shrinks l = at_cut at h spot f (λ s. WayIs (way_to t s h) way.Shrinks)
         (subst (λ v. WayIs v way.Shrinks) (sym (way_shrinks t (cut_of at h spot f) h (let z = f.size_is in omega arith))) shrinks)
 
-    grown : (w : Way) → spot.size < t → WayIs (way_to_grow t (cut_of at h spot f) f.after h) w → is_way w
+    grown : (w : ResizeWay) → spot.size < t → WayIs (way_to_grow t (cut_of at h spot f) f.after h) w → is_way w
     grown w l k = at_cut at h spot f (λ s. WayIs (way_to t s h) w) (subst (λ v. WayIs v w)
         (sym (way_grows t (cut_of at h spot f) h (let z = f.size_is in omega arith))) k)
 
@@ -233,7 +233,7 @@ module _ (b : List ℕ) (at : ℕ) (h : Heap) (spot : Spot) (s : Spells b at h) 
 
     full_at : (next top end : ℕ) → spot.size < t → LinksTo b at (at + spot.from) next → next ≢ spot.place + spot.size → top ≡ word b (at + 8)
         → spot.place + spot.size ≡ top → end ≡ word b (at + 12) → end < spot.place + t
-        → (w : Way) (o : Option (Split Segment)) → hole_for t h.segments ≡ o → WayIs (way_beyond [] o) w → is_way w
+        → (w : ResizeWay) (o : Option (Split Segment)) → hole_for t h.segments ≡ o → WayIs (way_beyond [] o) w → is_way w
     full_at next top end g k ne et e ee l w o eo kw =
         let last = s.last in
         let p = f.reached.place_is in

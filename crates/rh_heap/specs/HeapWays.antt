@@ -6,13 +6,13 @@ use Rattle.rh_defs.specs.Heap.{Segment, Heap, Placed, bytes_of, block_at, way_to
 use Rattle.rh_defs.specs.Heap as heap
 use Rattle.rh_heap.specs.declared.span.Span.{Span}
 use Rattle.rh_heap.specs.declared.span.segments.Spot.{Spot}
-use Rattle.rh_heap.specs.declared.span.resize.Way.{Way}
-use Rattle.rh_heap.specs.declared.span.resize.Way.TheVariants as way
+use Rattle.rh_heap.specs.declared.span.resize.ResizeWay.{ResizeWay}
+use Rattle.rh_heap.specs.declared.span.resize.ResizeWay.TheVariants as way
 use Rattle.rh_heap.specs.HeapSpans.{heap_in, SpellsHeapIn}
 use Rattle.rh_heap.specs.declared.layout.TheConstants.{BLOCK}
 
 -- a way of the code is this way of the definitions
-pub data WayIs : heap.Way → Way → Type 0 where
+pub data WayIs : heap.Way → ResizeWay → Type 0 where
   stays : WayIs heap.Stays way.Stays
   shrinks : WayIs heap.Shrinks way.Shrinks
   into_hole : (size : ℕ) (rest : List Segment) → WayIs (heap.GrowsIntoHole size rest) (way.IntoHole size)
@@ -25,7 +25,7 @@ abbrev pub WithBlock : Spot → Heap → (Split Segment → Type 0) → Type 0
 WithBlock spot h P = IfSome (block_at (spot.place + BLOCK) h) P
 
 -- the way in which the block gets a segment of t bytes
-abbrev pub WayOf : ℕ → Spot → Heap → Way → Type 0
+abbrev pub WayOf : ℕ → Spot → Heap → ResizeWay → Type 0
 WayOf t spot h w = WithBlock spot h (λ s. WayIs (way_to t s h) w)
 
 -- the heap after the block got a segment of t bytes

@@ -75,7 +75,7 @@ fn is_told<S: Store, F: NamedFiles>(world: &World<S, F>, question: &Question, re
     requires { can_be_asked question.now ≡ true }
     ensures { result ≡ begins (asked world.now.desk question.now) reply.now }
 {
-    match (world.told(question), reply) {
+    match (world.answer_question(question), reply) {
         (Ok(first), Reply::Answered(numbers)) => is_same(&first, numbers),
         _ => false,
     }

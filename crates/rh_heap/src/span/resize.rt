@@ -36,7 +36,7 @@ pub enum ResizeWay {
 }
 
 /// How a block gets a segment of `size` bytes: the first of the ways, in their order, that has room for it.
-pub fn way_to<S: Words>(store: &S, span: Span, spot: Spot, size: usize) -> Way
+pub fn way_to<S: Words>(store: &S, span: Span, spot: Spot, size: usize) -> ResizeWay
     requires span { IsSpan (S.memory store.now) span }
     requires found { FoundBlock span.at (heap_in (S.memory store.now) span) (spot.place + BLOCK) spot }
     requires small { size < 2 ^ 40 }
@@ -114,7 +114,7 @@ pub fn widen<S: WordsMut>(store: &mut S, span: Span, spot: Spot, size: usize, ro
     requires span { IsSpan (S.memory store.old) span }
     requires found { FoundBlock span.at (heap_in (S.memory store.old) span) (spot.place + BLOCK) spot }
     requires multiple { size % HEAP_UNIT ≡ 0 }
-    requires way { WayOf size spot (heap_in (S.memory store.old) span) (Way.IntoHole room) }
+    requires way { WayOf size spot (heap_in (S.memory store.old) span) (ResizeWay.IntoHole room) }
     ensures spells { SpellsResized (S.memory store.old) (S.memory store.new) span size spot }
     ensures only { OnlySpan (S.memory store.old) (S.memory store.new) span }
 {
@@ -138,7 +138,7 @@ pub fn raise<S: WordsMut>(store: &mut S, span: Span, spot: Spot, size: usize)
     requires span { IsSpan (S.memory store.old) span }
     requires found { FoundBlock span.at (heap_in (S.memory store.old) span) (spot.place + BLOCK) spot }
     requires multiple { size % HEAP_UNIT ≡ 0 }
-    requires way { WayOf size spot (heap_in (S.memory store.old) span) Way.AtTop }
+    requires way { WayOf size spot (heap_in (S.memory store.old) span) ResizeWay.AtTop }
     requires room { spot.place + size ≤ (heap_in (S.memory store.old) span).end }
     ensures spells { SpellsResized (S.memory store.old) (S.memory store.new) span size spot }
     ensures only { OnlySpan (S.memory store.old) (S.memory store.new) span }
