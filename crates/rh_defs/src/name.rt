@@ -10,7 +10,7 @@ use crate::sizes::LONGEST_NAME;
 use arrayvec::ArrayVec;
 use std::marker::Model;
 
-/// The name of a task or a file: 1 to 12 bytes.
+/// The name of a task or a file: 1 to 12 bytes. By default it has none, and is nobody's.
 #[derive(Debug, Drop, PartialEq, Eq, Hash)]
 pub struct Name {
     letters: ArrayVec<u8, LONGEST_NAME>,
@@ -24,6 +24,19 @@ impl Model for Name {
     ghost view = { λ n. n.letters.items };
 
     ghost inverse = { λ xs. record { letters = record { items = xs } } };
+}
+
+impl Default for Name {
+    ghost use Rattle.std.specs.Prelude.{◌≡◌, []};
+
+    ghost is_default = { λ n. n ≡ [] };
+
+    /// No letters, which no task and no file has.
+    fn default() -> Name {
+        Name {
+            letters: ArrayVec::new(),
+        }
+    }
 }
 
 impl Name {

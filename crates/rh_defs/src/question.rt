@@ -134,9 +134,9 @@ pub enum SegmentItem {
 }
 
 impl Default for SegmentItem {
-    /// A hole of no bytes, as no heap has one.
+    /// A block at address 0, as no heap has one. All of its bytes are zeros, so that a row of them is cleared.
     fn default() -> SegmentItem {
-        SegmentItem::Hole {
+        SegmentItem::Used {
             address: 0,
             size: 0,
         }

@@ -34,10 +34,10 @@ pub struct Piece {
 }
 
 impl Default for Piece {
-    /// Nothing, at an area's first byte.
+    /// No byte, at an area's first one. All of the value's bytes are zeros, so that a row of them is cleared.
     fn default() -> Piece {
         Piece {
-            kind: Kind::Unused,
+            kind: Kind::AnchorWords,
             at: 0,
             size: 0,
             fresh: false,

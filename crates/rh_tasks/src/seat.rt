@@ -40,12 +40,13 @@ pub struct SentLetter {
     pub my_ref: Ref,
 }
 
-/// A seat that no task has: what a table holds behind its last one.
+/// A seat that no task has: what a table holds behind its last one. All of its bytes are zeros, so that a table is
+/// cleared where it lies.
 impl Default for Seat {
     fn default() -> Seat {
         Seat {
             handle: Handle(0),
-            name: Name::new(b"none").unwrap(),
+            name: Name::default(),
             buffer: 0,
             manner: Manner::Plain,
             slot: Slot {
