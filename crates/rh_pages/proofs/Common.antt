@@ -1,6 +1,6 @@
 -- Names that many of the proofs here cite, passed on in one place.
 pub use Rattle.std.proofs.Common.{Bool, List, ap, append_assoc, ap₂, arith, cond, drop, false, get_or, inl, inr, length, length-append, length-drop}
-pub use Rattle.std.proofs.Common.{length-take, lit≤, refl, replicate, set, slice_range, subst, suc, sym, take, true, w32, zero, ℕ, [], ◌%◌, ◌*◌, ◌++◌, ◌+◌}
+pub use Rattle.std.proofs.Common.{length-take, lit≤, map, refl, replicate, set, slice_range, subst, suc, sym, take, true, w32, zero, ℕ, [], ◌%◌, ◌*◌, ◌++◌, ◌+◌}
 pub use Rattle.std.proofs.Common.{◌-◌, ◌/◌, ◌<◌, ◌==◌, ◌∙◌, ◌∷◌, ◌≡◌, ◌≢◌, ◌≤◌, ◌⊎◌}
 pub use Rattle.std.proofs.lemmas.Bool.{cases_eq, cases_lt}
 pub use Rattle.std.proofs.lemmas.List.{get_or-set_other, get_or-set_same, get_or-take, length-replicate, length-set, length_push, take-set-le}

@@ -4,6 +4,7 @@ pub mod Common
 pub mod Counts
 pub mod Passing
 pub mod Regions
+pub mod Runs
 pub mod Rows
 pub mod Seats
 pub mod Shifts

@@ -1,13 +1,15 @@
 -- Where the code finds a part of one page of a store, and what a write there does to the store.
-use Rattle.rh_pages.proofs.Common.{◌≡◌, ℕ, ◌+◌, ◌-◌, ◌*◌, ◌/◌, ◌%◌, ◌<◌, ◌≤◌, List, [], length, get_or, sym, ap, subst, ◌∙◌, arith, lit≤, get_or-take}
+use Rattle.rh_pages.proofs.Common.{◌≡◌, ℕ, ◌+◌, ◌-◌, ◌*◌, ◌/◌, ◌%◌, ◌<◌, ◌≤◌, List, [], ◌∷◌, length, get_or, map, zero, suc, refl}
+use Rattle.rh_pages.proofs.Common.{inl, inr, sym, ap, ap₂, subst, ◌∙◌, arith, cases_lt, lit≤, get_or-take}
 use Rattle.rh_pages.proofs.Common.{MAX_AREAS, PAGE, part, with_part, IsOpen, bytes, with_bytes, PagedStore, areas_in, paged_bytes, free_in, list_at}
 use Rattle.rh_pages.proofs.Common.{paged_memory_in}
 use Rattle.rh_pages.proofs.Common.{IsPagedStore, paged_memory, region_of, pages_of, free_of, paged_numbered_law, LISTS, lists_of}
 use Rattle.rh_defs.specs.declared.sizes.TheConstants.{MAX_PAGES}
 use Rattle.rh_pages.specs.Inner.Spots.{spot_in}
-use Rattle.rh_pages.specs.Paged.{place_of}
+use Rattle.rh_pages.specs.Paged.{free_numbers_of, numbers_of, place_of, pool_number}
 use Rattle.rh_pages.proofs.Spots.{Spot, spot, length_are, page_below, bytes_are}
-use Rattle.rh_pages.proofs.Chunks.{bytes_read}
+use Rattle.std.proofs.lemmas.List.{get_or-map}
+use Rattle.rh_pages.proofs.Chunks.{bytes_read, stands}
 use Rattle.rh_pages.proofs.Counts.{apart}
 
 -- all lists of a store's table
@@ -34,6 +36,37 @@ pub table_long : {G : _} {d : _} (s : PagedStore G d) (id : ℕ) → IsOpen (pag
     → length (bytes (paged_memory s) id) ≡ PAGE * length (list_at (table_of s) id)
 table_long s id o = let e = ap length (list_read s id o) in let long = area_long s id o in omega arith
 
+-- a page of an area is one of the ground
+pub page_in : {G : _} {d : _} (s : PagedStore G d) (id i k : ℕ) → IsOpen (paged_memory s) id → PAGE * i < length (bytes (paged_memory s) id)
+    → k ≡ get_or (list_at (pages_of s) id) i 0 → k < s.table.room
+page_in s id i k o inside e =
+    let long = area_long s id o in
+    let low = page_below (region_of s) (pages_of s) s.opened (free_of s) s.table.room MAX_AREAS s.kept id i (omega arith) in omega arith
+
+-- a free page is one
+pub free_page_in : {G : _} {d : _} (s : PagedStore G d) (i k : ℕ) → i < length (free_of s) → k ≡ get_or (free_of s) i 0 → k < s.table.room
+free_page_in s i k lt e = elim (cases_lt k s.table.room) [
+  | inl h ↦ h
+  | inr h ↦ absurd (let none = s.kept.below k h in let there = stands k (free_of s) i lt (sym e) in omega arith)
+]
+
+numbers_listed : (f : ℕ → ℕ) (lists : List (List ℕ)) (id : ℕ) → get_or (map (map f) lists) id [] ≡ map f (get_or lists id [])
+numbers_listed f [] id = refl
+numbers_listed f (xs ∷ lists) zero = refl
+numbers_listed f (xs ∷ lists) (suc id) = numbers_listed f lists id
+
+-- the number of a page in the pool, as the code reads it
+pub numbered : {G : _} {d : _} (s : PagedStore G d) (id i k room : ℕ) → i < length (list_at (pages_of s) id) → room ≡ s.table.room
+    → k ≡ get_or (list_at (pages_of s) id) i 0 → room - 1 - k ≡ get_or (get_or (numbers_of s) id []) i 0
+numbered s id i k room lt same is =
+    ap₂ (λ r n. r - 1 - n) same is ∙ sym (get_or-map (pool_number s.table.room) (list_at (pages_of s) id) i 0 0 lt)
+    ∙ ap (λ l. get_or l i 0) (sym (numbers_listed (pool_number s.table.room) (pages_of s) id))
+
+pub free_numbered : {G : _} {d : _} (s : PagedStore G d) (i k room : ℕ) → i < length (free_of s) → room ≡ s.table.room → k ≡ get_or (free_of s) i 0
+    → room - 1 - k ≡ get_or (free_numbers_of s) i 0
+free_numbered s i k room lt same is =
+    ap₂ (λ r n. r - 1 - n) same is ∙ sym (get_or-map (pool_number s.table.room) (free_of s) i 0 0 lt)
+
 pub record Seat {G : _} {d : _} (s : PagedStore G d) (id at n p : ℕ) : Type 0 where
   pub within : p + n ≤ length (region_of s)
   pub read : part (region_of s) p n ≡ part (bytes (paged_memory s) id) at n
@@ -47,7 +80,7 @@ pub record Seat {G : _} {d : _} (s : PagedStore G d) (id at n p : ℕ) : Type 0 
 pub still_long : {G : _} {d : _} (s : PagedStore G d) (numbers : List ℕ) → numbers ≡ d.numbers s.site → LISTS * s.table.room ≤ length numbers
 still_long s numbers e = omega (arith, ap length e, s.long)
 
-at_spot : {G : _} {d : _} (s : PagedStore G d) (id at n : ℕ) → Spot (region_of s) (pages_of s) s.opened (free_of s) s.table.room MAX_AREAS id at n
+pub at_spot : {G : _} {d : _} (s : PagedStore G d) (id at n : ℕ) → Spot (region_of s) (pages_of s) s.opened (free_of s) s.table.room MAX_AREAS id at n
     → Seat s id at n (spot_in (pages_of s) id at)
 unfolding paged_memory
 at_spot s id at n there = record {

@@ -1,5 +1,5 @@
 -- A store whose pages are all free, and areas that are opened and closed.
-use Rattle.rh_pages.proofs.Common.{◌≡◌, ℕ, zero, suc, ◌+◌, ◌*◌, ◌/◌, ◌<◌, ◌≤◌, Bool, true, false, inl, inr, List, [], ◌∷◌, ◌++◌, length, get_or, set}
+use Rattle.rh_pages.proofs.Common.{◌≡◌, ℕ, zero, suc, ◌+◌, ◌-◌, ◌*◌, ◌/◌, ◌<◌, ◌≤◌, Bool, true, false, inl, inr, List, [], ◌∷◌, ◌++◌, length, get_or, set}
 use Rattle.rh_pages.proofs.Common.{replicate, refl, sym, ap, ◌∙◌, arith, Option, Some, None, unwrap_or, cases_eq, length-replicate, length_push, length-set}
 use Rattle.rh_pages.proofs.Common.{get_or-set_other, PAGE, area_set, paged_bytes, list_at, paged_contents, paged_memory_in, IsPagedStore, times, times_all}
 use Rattle.std.proofs.Math.Path.{fun_ext}
@@ -9,25 +9,32 @@ use Rattle.rh_pages.proofs.Areas.{contents_marked, flagged, ledger_set, memory_s
 use Rattle.rh_pages.proofs.Chunks.{head_tells}
 use Rattle.rh_pages.proofs.Counts.{times-push}
 
--- 0, 1 and so on, n numbers
-abbrev pub first : ℕ → List ℕ
-first zero = []
-first (suc n) = first n ++ n ∷ []
+-- pages - 1, pages - 2 and so on, n numbers
+abbrev pub from_top : ℕ → ℕ → List ℕ
+from_top pages zero = []
+from_top pages (suc n) = from_top pages n ++ (pages - 1 - n) ∷ []
 
-pub length_first : (n : ℕ) → length (first n) ≡ n
-length_first zero = refl
-length_first (suc n) = let a = length_first n in let b = length_push (first n) n in omega arith
+pub length_top : (pages n : ℕ) → length (from_top pages n) ≡ n
+length_top pages zero = refl
+length_top pages (suc n) = let a = length_top pages n in let b = length_push (from_top pages n) (pages - 1 - n) in omega arith
 
-pub times_past : (j n : ℕ) → n ≤ j → times j (first n) ≡ 0
-times_past j zero le = refl
-times_past j (suc n) le = let a = times-push j n (first n) in let b =
-    times_past j n (omega arith) in elim (head_tells n j) [ inl h ↦ let e = h.0 in absurd (omega arith) | inr h ↦ let z = h.1 in omega arith ]
+times_past : (j pages n : ℕ) → n ≤ pages → pages ≤ j → times j (from_top pages n) ≡ 0
+times_past j pages zero few le = refl
+times_past j pages (suc n) few le =
+    let a = times-push j (pages - 1 - n) (from_top pages n) in let b = times_past j pages n (omega arith) le in
+    elim (head_tells (pages - 1 - n) j) [ inl h ↦ let e = h.0 in absurd (omega arith) | inr h ↦ let z = h.1 in omega arith ]
 
-pub times_first : (j n : ℕ) → times j (first n) ≤ 1
-times_first j zero = omega arith
-times_first j (suc n) = let a = times-push j n (first n) in elim (head_tells n j) [
-  | inl h ↦ let e = h.0 in let o = h.1 in let b = times_past j n (omega arith) in omega arith
-  | inr h ↦ let z = h.1 in let b = times_first j n in omega arith
+times_later : (j pages n : ℕ) → n + j < pages → times j (from_top pages n) ≡ 0
+times_later j pages zero lt = refl
+times_later j pages (suc n) lt =
+    let a = times-push j (pages - 1 - n) (from_top pages n) in let b = times_later j pages n (omega arith) in
+    elim (head_tells (pages - 1 - n) j) [ inl h ↦ let e = h.0 in absurd (omega arith) | inr h ↦ let z = h.1 in omega arith ]
+
+times_top : (j pages n : ℕ) → n ≤ pages → times j (from_top pages n) ≤ 1
+times_top j pages zero few = omega arith
+times_top j pages (suc n) few = let a = times-push j (pages - 1 - n) (from_top pages n) in elim (head_tells (pages - 1 - n) j) [
+  | inl h ↦ let e = h.0 in let o = h.1 in let b = times_later j pages n (omega arith) in omega arith
+  | inr h ↦ let z = h.1 in let b = times_top j pages n (omega arith) in omega arith
 ]
 
 times_none : (j n : ℕ) → times_all j (replicate n []) ≡ 0
@@ -45,20 +52,23 @@ flag_none (suc n) zero = refl
 flag_none (suc n) (suc j) = flag_none n j
 
 module _ (r : List ℕ) (lists : List (List ℕ)) (flags : List Bool) (free : List ℕ) (pages limit : ℕ) (no_lists : lists ≡ replicate limit [])
-    (no_flags : flags ≡ replicate limit false) (all : free ≡ first pages) where
+    (no_flags : flags ≡ replicate limit false) (all : free ≡ from_top pages pages) where
   all_closed : (j : ℕ) → paged_contents r lists flags j ≡ None
   all_closed j = contents_marked r lists flags j false (ap (λ (l : List Bool). get_or l j false) no_flags ∙ flag_none limit j)
 
   count : length free ≡ pages
-  count = ap length all ∙ length_first pages
+  count = ap length all ∙ length_top pages pages
+
+  not_listed : (j : ℕ) → times_all j lists ≡ 0
+  not_listed j = ap (times_all j) no_lists ∙ times_none j limit
 
   pub fresh_kept : length r ≡ PAGE * pages → IsPagedStore r lists flags free pages limit
   fresh_kept size = record {
     size = size;
     table = ap length no_lists ∙ length-replicate {A = List ℕ} limit [];
     flags = ap length no_flags ∙ length-replicate {A = Bool} limit false;
-    once = λ j. let a = ap (times_all j) no_lists ∙ times_none j limit in let b = ap (times j) all in let c = times_first j pages in omega arith;
-    below = λ j h. let a = ap (times_all j) no_lists ∙ times_none j limit in let b = ap (times j) all in let c = times_past j pages h in omega arith;
+    once = λ j. let a = not_listed j in let b = ap (times j) all in let c = times_top j pages pages (omega arith) in omega arith;
+    below = λ j h. let a = not_listed j in let b = ap (times j) all in let c = times_past j pages pages (omega arith) h in omega arith;
     empty = λ j off. ap (λ l. list_at l j) no_lists ∙ list_none limit j;
     ledger = let none = pages_below-none (paged_contents r lists flags) limit all_closed in let c = count in omega arith;
   }

@@ -1,5 +1,5 @@
 -- The memory of a paged store, where its pages stand, and why the laws of `Store` hold of it.
-use Rattle.std.specs.Prelude.{ℕ, ◌*◌, List, get_or}
+use Rattle.std.specs.Prelude.{ℕ, ◌-◌, ◌*◌, List, get_or, map}
 use Rattle.rh_defs.specs.declared.sizes.TheConstants.{PAGE}
 use Rattle.rh_defs.specs.Memory.{Memory}
 use Rattle.rh_pages.specs.declared.paged.PagedStore.{PagedStore}
@@ -16,6 +16,17 @@ pages_of {G} {d} s = areas_in (lists_of (d.numbers s.site) s.table)
 
 abbrev pub free_of : {G : _} {d : _} → PagedStore G d → List ℕ
 free_of {G} {d} s = free_in (lists_of (d.numbers s.site) s.table)
+
+-- the number in the pool of a page of the ground: they count from the ground's end
+abbrev pub pool_number : ℕ → ℕ → ℕ
+pool_number pages k = pages - 1 - k
+
+-- the numbers of the pages of each area, and of those that are free
+abbrev pub numbers_of : {G : _} {d : _} → PagedStore G d → List (List ℕ)
+numbers_of s = map (map (pool_number s.table.room)) (pages_of s)
+
+abbrev pub free_numbers_of : {G : _} {d : _} → PagedStore G d → List ℕ
+free_numbers_of s = map (pool_number s.table.room) (free_of s)
 
 -- what its areas contain, its free pages and all its pages
 unfoldable pub paged_memory : {G : _} {d : _} → PagedStore G d → Memory

@@ -20,8 +20,9 @@ use rh_region::Region;
 use rh_store::AreaId;
 use std::alloc::{AllocError, Global};
 
-/// A store whose areas share one ground: an area is a list of page numbers, and page k of the ground is its 4,096 bytes
-/// from the address 4096 * k on.
+/// A store whose areas share one ground: an area is a list of the ground's pages, and page k of the ground is its 4,096
+/// bytes from the address 4096 * k on. Free pages are given from the lowest on: those of one area mostly stand side by
+/// side. The pool counts its pages from the ground's end: its page 0 is the ground's last.
 #[derive(Drop)]
 pub struct PagedStore<G: Backing = RegionBacking> {
     site: G,
@@ -59,10 +60,11 @@ impl PagedStore {
 }
 
 impl<G: Backing> PagedStore<G> {
-    ghost use Rattle.std.specs.Prelude.{◌≡◌, ℕ, ◌+◌, ◌*◌, ◌%◌, ◌<◌, ◌≤◌, length};
+    ghost use Rattle.std.specs.Prelude.{◌≡◌, ℕ, ◌+◌, ◌*◌, ◌%◌, ◌<◌, ◌≤◌, get_or, length};
     ghost use Rattle.rh_defs.specs.Bytes.{part};
     ghost use Rattle.rh_defs.specs.Memory.{IsOpen, bytes, fresh};
     ghost use Rattle.rh_pages.specs.Inner.Spots.{spot_in};
+    ghost use Rattle.rh_pages.specs.Pages.{list_at};
     ghost use Rattle.rh_pages.specs.Paged.{paged_memory, pages_of, place_of};
 
     /// A store of this many pages, at most 1,024, all of them free, on a ground of 4096 bytes for each page and `LISTS`
@@ -76,7 +78,7 @@ impl<G: Backing> PagedStore<G> {
         let mut site = site;
         let mut table = PageTable::new(pages);
         for k in 0..pages {
-            table.push(&mut site, FREE, k as u16);
+            table.push(&mut site, FREE, (pages - 1 - k) as u16);
         }
         PagedStore {
             site,
@@ -100,6 +102,17 @@ impl<G: Backing> PagedStore<G> {
             place_of self.now a j ≡ result → (a ≡ id.0) × (j ≡ i) }
     {
         PAGE * self.table.at(&self.site, id.0 as usize, i) as usize
+    }
+
+    /// Which page of the ground page i of an area is.
+    #[inline(always)]
+    fn backing_page(&self, id: AreaId, i: usize) -> usize
+        requires opened { IsOpen (paged_memory self.now) id.0 }
+        requires within { PAGE * i < length (bytes (paged_memory self.now) id.0) }
+        ensures value { result ≡ get_or (list_at (pages_of self.now) id.0) i 0 }
+        ensures small { result < self.now.table.room }
+    {
+        self.table.at(&self.site, id.0 as usize, i) as usize
     }
 
     /// The address on the ground of the byte at an offset of an area.

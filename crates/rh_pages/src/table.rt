@@ -41,6 +41,13 @@ impl PageTable {
         }
     }
 
+    /// How many numbers each list has room for.
+    pub fn room(&self) -> usize
+        ensures { result ≡ self.now.room }
+    {
+        self.room
+    }
+
     /// How many numbers are in a list.
     pub fn len(&self, k: usize) -> usize
         requires { k < LISTS }

@@ -48,7 +48,8 @@ fn tell_place<R: Print>(rt: &R, store: &PagedStore, x: AreaId, y: AreaId) -> io:
     println!(rt; "region of {len} bytes, with &{word:x} there")
 }
 
-/// Prints whether the second page of an area has the number of its place, and one of its own.
+/// Prints whether the second page of an area has the number of its place, counted from the region's end, and one of its
+/// own.
 fn tell_number<R: Print>(rt: &R, store: &PagedStore, x: AreaId) -> io::Result<()>
     requires { IsOpen (paged_memory store.now) x.0 }
 {
@@ -56,7 +57,8 @@ fn tell_number<R: Print>(rt: &R, store: &PagedStore, x: AreaId) -> io::Result<()
         return println!(rt; "no such page");
     }
     let (number, before, free) = (store.page(x, 1), store.page(x, 0), store.free_page(0));
-    let same = number.wrapping_mul(PAGE) == store.place(x, 1);
+    let above = number.wrapping_add(1).wrapping_mul(PAGE);
+    let same = store.region().len().wrapping_sub(above) == store.place(x, 1);
     let apart = number != before && free != number && free != before;
     let small = free < 8;
     println!(rt; "number of its place: {same}, apart: {apart}, below 8: {small}")

@@ -5,10 +5,10 @@ use Rattle.rh_defs.specs.Memory.{IsOpen, Ledger, bytes}
 use Rattle.rh_pages.specs.declared.paged.PagedStore.{PagedStore}
 use Rattle.rh_pages.specs.Inner.PagedKept.{whole_paged_areas, within_paged_pool, small_paged_areas, numbered_paged_areas}
 use Rattle.rh_store.specs.Inner.StoreLaws.{few_pages}
-use Rattle.rh_pages.specs.Inner.Sited.{shared_out}
+use Rattle.rh_pages.specs.Inner.Sited.{numbered_out, shared_out}
 use Rattle.rh_store.specs.Limits.{area_limit, pool_limit}
 use Rattle.rh_store.specs.Shares.{SharesOut}
-use Rattle.rh_pages.specs.Paged.{free_of, paged_memory, pages_of, region_of}
+use Rattle.rh_pages.specs.Paged.{free_numbers_of, free_of, numbers_of, paged_memory, pages_of, region_of}
 
 pub paged_ledger_law : {G : _} {d : _} (s : PagedStore G d) → Ledger (paged_memory s) MAX_AREAS
 unfolding paged_memory
@@ -34,6 +34,7 @@ pub paged_numbered_law : {G : _} {d : _} (s : PagedStore G d) (id : ℕ) → IsO
 unfolding paged_memory
 paged_numbered_law s id o = numbered_paged_areas (region_of s) (pages_of s) s.opened (free_of s) s.table.room MAX_AREAS id s.kept o
 
-pub shared_law : {G : _} {d : _} (s : PagedStore G d) → SharesOut (paged_memory s) (pages_of s) (free_of s)
+pub shared_law : {G : _} {d : _} (s : PagedStore G d) → SharesOut (paged_memory s) (numbers_of s) (free_numbers_of s)
 unfolding paged_memory
-shared_law s = shared_out (region_of s) (pages_of s) s.opened (free_of s) s.table.room MAX_AREAS s.kept
+shared_law s =
+    numbered_out (paged_memory s) (pages_of s) (free_of s) (shared_out (region_of s) (pages_of s) s.opened (free_of s) s.table.room MAX_AREAS s.kept)

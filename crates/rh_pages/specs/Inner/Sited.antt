@@ -1,12 +1,13 @@
 -- Why areas that are made of pages share out the pool, each page just once.
-use Rattle.std.specs.Prelude.{◌≡◌, ℕ, zero, suc, ◌+◌, ◌*◌, ◌<◌, ◌≤◌, ◌==◌, if◌then◌else◌, Bool, true, false, List, [], ◌∷◌, length, get_or, Some, None, cond, unwrap_or, refl}
+use Rattle.std.specs.Prelude.{◌≡◌, ℕ, zero, suc, ◌+◌, ◌-◌, ◌*◌, ◌<◌, ◌≤◌, ◌==◌, if◌then◌else◌, Bool, true, false, List, [], ◌∷◌, length, map, get_or, Some, None, cond, unwrap_or, refl}
 use Rattle.std.proofs.Common.{inl, inr, sym, ap, ◌∙◌, arith}
 use Rattle.std.proofs.lemmas.Bool.{cases_eq, cases_lt}
 use Rattle.std.proofs.lemmas.Bool.Decides.{eqb_tells}
 use Rattle.rh_defs.specs.declared.sizes.TheConstants.{PAGE}
-use Rattle.rh_defs.specs.Memory.{bytes, pages_below}
+use Rattle.rh_defs.specs.Memory.{Memory, bytes, pages_below}
 use Rattle.rh_defs.specs.Pieces.{total}
 use Rattle.rh_pages.specs.Inner.PagedKept.{length-bytes}
+use Rattle.rh_pages.specs.Paged.{pool_number}
 use Rattle.rh_pages.specs.Pages.{paged_bytes, list_at, paged_contents, paged_memory_in, IsPagedStore}
 use Rattle.rh_store.specs.Shares.{times, times_all, SharesOut}
 
@@ -125,3 +126,67 @@ module _ (region : List ℕ) (lists : List (List ℕ)) (opened : List Bool) (fre
     once = λ j l. sum-full (λ i. times_all i lists + times i free) pages k.once counted j l;
     below = k.below;
   }
+
+-- ---- pages that are counted from the end
+
+length-back : (f : ℕ → ℕ) (xs : List ℕ) → length (map f xs) ≡ length xs
+length-back f [] = refl
+length-back f (x ∷ xs) = ap suc (length-back f xs)
+
+list-back : (f : ℕ → ℕ) (lists : List (List ℕ)) (id : ℕ) → length (get_or (map (map f) lists) id []) ≡ length (get_or lists id [])
+list-back f [] id = refl
+list-back f (xs ∷ lists) zero = length-back f xs
+list-back f (xs ∷ lists) (suc id) = list-back f lists id
+
+hit-back : (n x k : ℕ) → x < n → k < n → hit (n - 1 - x) k ≡ hit x (n - 1 - k)
+hit-back n x k lx lk = elim (cases_eq x (n - 1 - k)) [
+  | inl q ↦ hit-same (n - 1 - x) k (omega arith) ∙ sym (hit-same x (n - 1 - k) q)
+  | inr ne ↦ hit-other (n - 1 - x) k (λ e. ne (omega arith)) ∙ sym (hit-other x (n - 1 - k) ne)
+]
+
+module _ (n k : ℕ) where
+  times-back : (xs : List ℕ) → ((j : ℕ) → n ≤ j → times j xs ≡ 0) → k < n → times k (map (pool_number n) xs) ≡ times (n - 1 - k) xs
+  times-back [] none lk = refl
+  times-back (x ∷ xs) none lk = elim (cases_lt x n) [
+    | inl l ↦
+        let here = hit-back n x k l lk in
+        let rest = times-back xs (λ j h. let all = none j h in omega arith) lk in omega arith
+    | inr h ↦ let one = hit-same x x refl in let all = none x h in absurd (omega arith)
+  ]
+
+  times-back_past : (xs : List ℕ) → ((j : ℕ) → n ≤ j → times j xs ≡ 0) → n ≤ k → times k (map (pool_number n) xs) ≡ 0
+  times-back_past [] none le = refl
+  times-back_past (x ∷ xs) none le = elim (cases_lt x n) [
+    | inl l ↦
+        let here = hit-other (n - 1 - x) k (λ e. absurd (omega arith)) in
+        let rest = times-back_past xs (λ j h. let all = none j h in omega arith) le in omega arith
+    | inr h ↦ let one = hit-same x x refl in let all = none x h in absurd (omega arith)
+  ]
+
+  all-back : (lists : List (List ℕ)) → ((j : ℕ) → n ≤ j → times_all j lists ≡ 0) → k < n
+      → times_all k (map (map (pool_number n)) lists) ≡ times_all (n - 1 - k) lists
+  all-back [] none lk = refl
+  all-back (xs ∷ lists) none lk =
+      let here = times-back xs (λ j h. let all = none j h in omega arith) lk in
+      let rest = all-back lists (λ j h. let all = none j h in omega arith) lk in omega arith
+
+  all-back_past : (lists : List (List ℕ)) → ((j : ℕ) → n ≤ j → times_all j lists ≡ 0) → n ≤ k → times_all k (map (map (pool_number n)) lists) ≡ 0
+  all-back_past [] none le = refl
+  all-back_past (xs ∷ lists) none le =
+      let here = times-back_past xs (λ j h. let all = none j h in omega arith) le in
+      let rest = all-back_past lists (λ j h. let all = none j h in omega arith) le in omega arith
+
+-- pages that share out a pool do by their numbers in it
+pub numbered_out : (m : Memory) (lists : List (List ℕ)) (free : List ℕ) → SharesOut m lists free
+    → SharesOut m (map (map (pool_number m.pages)) lists) (map (pool_number m.pages) free)
+numbered_out m lists free shared = record {
+  areas = λ id. ap (λ n. PAGE * n) (list-back (pool_number m.pages) lists id) ∙ shared.areas id;
+  frees = length-back (pool_number m.pages) free ∙ shared.frees;
+  once = λ k l.
+      let here = all-back m.pages k lists (λ j h. let all = shared.below j h in omega arith) l in
+      let there = times-back m.pages k free (λ j h. let all = shared.below j h in omega arith) l in
+      let one = shared.once (m.pages - 1 - k) (omega arith) in omega arith;
+  below = λ k h.
+      let here = all-back_past m.pages k lists (λ j h. let all = shared.below j h in omega arith) h in
+      let there = times-back_past m.pages k free (λ j h. let all = shared.below j h in omega arith) h in omega arith;
+}

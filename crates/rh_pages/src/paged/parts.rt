@@ -1,4 +1,4 @@
-//! Moves of bytes that lie in one page, and moves of single pages between the lists.
+//! Moves of bytes that lie side by side on the ground, and moves of single pages between the lists.
 #![tactic(auto, unfolding(rh_defs::specs::Memory::bytes, crate::specs::Paged::paged_memory))]
 
 use super::PagedStore;
@@ -12,7 +12,8 @@ impl<G: Backing> PagedStore<G> {
     ghost use Rattle.rh_defs.specs.Bytes.{part, with_part};
     ghost use Rattle.rh_defs.specs.Memory.{IsOpen, bytes, with_bytes, grown, shrunk};
     ghost use Rattle.rh_defs.specs.declared.sizes.TheConstants.{PAGE};
-    ghost use Rattle.rh_pages.specs.Paged.{paged_memory};
+    ghost use Rattle.rh_pages.specs.Inner.Spots.{IsTogether};
+    ghost use Rattle.rh_pages.specs.Paged.{paged_memory, pages_of};
 
     /// Writes zeros to bytes of one page.
     pub(super) fn zero_part(&mut self, id: AreaId, at: usize, n: usize)
@@ -27,15 +28,15 @@ impl<G: Backing> PagedStore<G> {
         self.site.zero(place, n);
     }
 
-    /// Copies bytes from one page to one page, which can be the same. The two runs may overlap.
+    /// Copies bytes that lie side by side on the ground to others that do. The two runs may overlap.
     pub(super) fn copy_part(&mut self, id: AreaId, at: usize, id2: AreaId, at2: usize, n: usize)
         requires opened { IsOpen (paged_memory self.old) id.0 }
         requires opened2 { IsOpen (paged_memory self.old) id2.0 }
         requires some { 0 < n }
         requires source { at + n ≤ length (bytes (paged_memory self.old) id.0) }
-        requires source_fits { at % PAGE + n ≤ PAGE }
+        requires source_together { IsTogether (pages_of self.old) id.0 at n }
         requires target { at2 + n ≤ length (bytes (paged_memory self.old) id2.0) }
-        requires target_fits { at2 % PAGE + n ≤ PAGE }
+        requires target_together { IsTogether (pages_of self.old) id2.0 at2 n }
         ensures { paged_memory self.new ≡ with_bytes (paged_memory self.old) id2.0
             (with_part (bytes (paged_memory self.old) id2.0) at2 (part (bytes (paged_memory self.old) id.0) at n)) }
     {

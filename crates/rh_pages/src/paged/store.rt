@@ -182,19 +182,19 @@ impl<G: Backing> Store for PagedStore<G> {
 }
 
 impl<G: Backing> Sited for PagedStore<G> {
-    ghost use Rattle.rh_pages.specs.Paged.{pages_of, free_of};
+    ghost use Rattle.rh_pages.specs.Paged.{numbers_of, free_numbers_of};
     ghost use Rattle.rh_pages.specs.Inner.PagedLaws.{shared_law};
 
-    ghost pages_of = { pages_of };
+    ghost pages_of = { numbers_of };
 
-    ghost free_of = { free_of };
+    ghost free_of = { free_numbers_of };
 
     fn page(&self, id: AreaId, i: usize) -> usize {
-        self.table.at(&self.site, id.0 as usize, i) as usize
+        self.table.room() - 1 - self.backing_page(id, i)
     }
 
     fn free_page(&self, i: usize) -> usize {
-        self.table.at(&self.site, FREE, i) as usize
+        self.table.room() - 1 - self.table.at(&self.site, FREE, i) as usize
     }
 
     ghost shared = { shared_law };

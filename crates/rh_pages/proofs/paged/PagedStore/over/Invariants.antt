@@ -1,5 +1,5 @@
 use Rattle.rh_pages.proofs.Common.{◌≡◌, ◌≤◌, [], length, replicate, MAX_AREAS, areas_in, free_in, lists_of}
-use Rattle.rh_pages.proofs.Start.{first}
+use Rattle.rh_pages.proofs.Start.{from_top}
 use Rattle.rh_pages.proofs.paged.PagedStore.over.Given as goal
 
 abbrev pub invariant-loop-k : goal.invariant-loop-k
@@ -9,5 +9,5 @@ invariant-loop-k g l = record {
   bytes : g.G.Backing.bytes l.site ≡ g.G.Backing.bytes l.initial.site;
   long : length (g.G.Backing.numbers l.site) ≡ length (g.G.Backing.numbers l.initial.site);
   areas : areas_in (lists_of (g.G.Backing.numbers l.site) l.table) ≡ replicate MAX_AREAS [];
-  free : free_in (lists_of (g.G.Backing.numbers l.site) l.table) ≡ first l.k;
+  free : free_in (lists_of (g.G.Backing.numbers l.site) l.table) ≡ from_top l.pages l.k;
 }
