@@ -1,9 +1,11 @@
 -- How a run, a check and the words end, from what their calls say.
-use Rattle.std.proofs.Common.{◌≡◌, ◌≢◌, inl, inr, refl, sym, ap, subst, ◌∙◌, ℕ, ◌+◌, ◌≤◌, min, arith, true, false, Bool, Bor, List, [], ◌∷◌, ◌++◌}
+use Rattle.std.proofs.Common.{◌≡◌, ◌≢◌, inl, inr, refl, sym, ap, subst, ◌∙◌, ℕ, ◌+◌, ◌≤◌, ◌<◌, min, arith, true, false, Bool, Bor, List, [], ◌∷◌, ◌++◌}
 use Rattle.std.proofs.Common.{length, map, take, codes, Option, Some, None, Result, Ok, Err, IfOk, IfErr, IfSome, option_map}
 use Rattle.std.proofs.lemmas.List.{length-take, take_all}
 use Rattle.std.specs.Prelude.{All, IsErrOf}
 use Rattle.std.specs.Io.Take.{take_inner, take_limit, take_remaining}
+use Rattle.std.specs.declared.io.ErrorKind.{ErrorKind}
+use Rattle.std.specs.declared.io.ErrorKind.TheVariants as error
 use Rattle.std.specs.declared.io.traits.Take.{Take}
 use Rattle.rh_defs.specs.Desk.{Desk}
 use Rattle.rh_defs.specs.Files.{FileList}
@@ -22,9 +24,12 @@ use Rattle.rh_desk.specs.Done.{CheckOver, FileOver, IsWhole, MapOver, RequestEnd
 use Rattle.rh_desk.specs.Done.{WordsEnd, line_as, status_as}
 use Rattle.rh_desk.specs.ProgramEnd.{ending_of}
 use Rattle.rh_desk.specs.FileWords.{AreGood, word_name}
+use Rattle.rh_desk.specs.Reasons.{MayBeLost, loss_of}
 use Rattle.rh_desk.specs.Requests.{AsksFor}
 use Rattle.rh_desk.specs.declared.program_end.ProgramEnd.{ProgramEnd}
 use Rattle.rh_desk.specs.declared.program_end.ProgramEnd.TheVariants.{Clean, BadLines}
+use Rattle.rh_desk.specs.declared.reasons.FileLoss.{FileLoss}
+use Rattle.rh_desk.specs.declared.reasons.FileLoss.TheVariants as loss
 use Rattle.rh_desk.specs.declared.request.ImageKind.{ImageKind}
 use Rattle.rh_desk.specs.declared.request.Request.{Request}
 use Rattle.rh_desk.specs.declared.request.Shown.{Shown}
@@ -65,6 +70,32 @@ whole-is remaining old bytes none small found = (
         found.1),
   ),
 )
+
+long-of : (had : Option (List ℕ)) (bytes : List ℕ) → LONGEST_FILE < length bytes → IfSome had (λ xs. bytes ≡ [] ++ take (LONGEST_FILE + 1) xs)
+    → IfSome had (λ xs. LONGEST_FILE < length xs)
+long-of None bytes long is = is
+long-of (Some xs) bytes long is =
+    let size : length bytes ≡ min (LONGEST_FILE + 1) (length xs) = ap length is ∙ length-take (LONGEST_FILE + 1) xs in
+    omega arith
+
+-- bytes that are more than a file may have are the front of a file that is too long
+pub too-long : {F : Type 0} (remaining : F → Option (List ℕ)) (old bytes : List ℕ) → old ≡ [] → LONGEST_FILE < length bytes
+    → ((file : F) × IfSome (remaining file) (λ had. bytes ≡ old ++ take (LONGEST_FILE + 1) had)) → MayBeLost remaining loss.TooLong
+too-long remaining old bytes none long found = (
+  found.0,
+  long-of (remaining found.0) bytes long (subst (λ l. IfSome (remaining found.0) (λ had. bytes ≡ l ++ take (LONGEST_FILE + 1) had)) none found.1),
+)
+
+by-error : {F : Type 0} (remaining : F → Option (List ℕ)) (kind : ErrorKind) → MayBeLost remaining (loss_of kind)
+by-error remaining error.NotFound = tt
+by-error remaining error.NotADirectory = tt
+by-error remaining error.IsADirectory = tt
+by-error remaining error.PermissionDenied = tt
+by-error remaining kind = tt
+
+-- an error of the system's may lose a file
+pub lost-by : {F : Type 0} (remaining : F → Option (List ℕ)) (kind : ErrorKind) (why : FileLoss) → why ≡ loss_of kind → MayBeLost remaining why
+lost-by remaining kind why is = subst (λ l. MayBeLost remaining l) (sym is) (by-error remaining kind)
 
 -- how a run ends the program
 pub run-over : (d : Desk) (s : Streams) (outcome : Result Status RunFault) → IfOk outcome (λ status. Finished d s.before s.after s.old s.new status)
@@ -148,7 +179,7 @@ check-over k image bytes s outcome same takes is broke quiet told =
 -- what stops a run before its script
 pub files-fail : {F : Type 0} (remaining : F → Option (List ℕ)) (shown : Shown) (pages : ℕ) (script : List ℕ) (words : List (List ℕ)) (s : Streams)
     (ending : ProgramEnd)
-    → AreGood words → Untouched s → TellsBadFile s.quiet s.told words ending → RunEnds remaining shown pages script words s ending
+    → AreGood words → Untouched s → TellsBadFile remaining s.quiet s.told words ending → RunEnds remaining shown pages script words s ending
 files-fail remaining shown pages script words s ending good still (inl bad) = inr (still, inl bad)
 files-fail remaining shown pages script words s ending good still (inr lost) = inr (still, inr (good, lost))
 

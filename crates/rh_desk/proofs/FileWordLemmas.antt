@@ -1,6 +1,6 @@
 -- How the words are looked over, one after the other.
 use Rattle.std.proofs.Common.{◌≡◌, ◌≢◌, ◌⊎◌, inl, inr, refl, sym, ap, subst, ◌∙◌, ℕ, ◌+◌, ◌<◌, ◌≤◌, arith, Result, Ok, Err, OnOk, Bool, true, false, ◌||◌}
-use Rattle.std.proofs.Common.{if◌then◌else◌, List, [], ◌∷◌, ◌++◌, length, map, drop, take, Some, None, Bor}
+use Rattle.std.proofs.Common.{if◌then◌else◌, List, [], ◌∷◌, ◌++◌, length, map, drop, take, Option, Some, None, Bor}
 use Rattle.std.proofs.Math.ListN.{get_or}
 use Rattle.std.proofs.lemmas.List.{at_drop_more, get_or-map, length-map, map-append, map_more, take-append-drop, take_all}
 use Rattle.std.proofs.lemmas.List.Elements.{All-more, All-nil, Contains-get_or}
@@ -128,12 +128,13 @@ word-in ws i d inside =
     subst (Contains (texts ws)) at.1 (Contains-get_or (texts ws) i d.now at.0)
 
 -- the file of a word can't be had, or memory was refused
-pub lost-file : (old new : Output) (ws : List (Bor (List ℕ))) (i : ℕ) (d : Bor (List ℕ)) (name path : List ℕ) (ending : ProgramEnd) → i < length ws
-    → Some (name, path) ≡ file_word (get_or ws i d).now → ending ≡ Fault → TellsLoss old new path ⊎ Tells old new (run_fault_text NoMemory)
-    → TellsBadFile old new (texts ws) ending
-lost-file old new ws i d name path ending inside found fault (inl told) =
-    inr ((get_or ws i d).now, fault, word-in ws i d inside, subst (λ p. TellsLoss old new p) (found-is (get_or ws i d).now name path found).2 told)
-lost-file old new ws i d name path ending inside found fault (inr told) = inl (inl (fault, told))
+pub lost-file : {F : Type 0} (remaining : F → Option (List ℕ)) (old new : Output) (ws : List (Bor (List ℕ))) (i : ℕ) (d : Bor (List ℕ)) (name path : List ℕ) (ending : ProgramEnd) → i < length ws
+    → Some (name, path) ≡ file_word (get_or ws i d).now → ending ≡ Fault
+    → TellsLoss remaining old new path ⊎ Tells old new (run_fault_text NoMemory)
+    → TellsBadFile remaining old new (texts ws) ending
+lost-file remaining old new ws i d name path ending inside found fault (inl told) =
+    inr ((get_or ws i d).now, fault, word-in ws i d inside, subst (λ p. TellsLoss remaining old new p) (found-is (get_or ws i d).now name path found).2 told)
+lost-file remaining old new ws i d name path ending inside found fault (inr told) = inl (inl (fault, told))
 
 -- past the last word all are good
 pub all-good : (ws : List (Bor (List ℕ))) (i : ℕ) → length ws ≤ i → AreGood (take i (texts ws)) → AreGood (texts ws)

@@ -132,7 +132,7 @@ FileOver {F} remaining shown d path s ending =
     × ShownOver shown path d (record (instead (remaining file) rest s) { told = told }) ending
     × TellsFolder told s.told ending))
     ⊎ (Untouched s × (ending ≡ Fault)
-    × (TellsLoss s.quiet s.told path ⊎ Tells s.quiet s.told (run_fault_text NoMemory)))
+    × (TellsLoss remaining s.quiet s.told path ⊎ Tells s.quiet s.told (run_fault_text NoMemory)))
 
 -- how a script over good words and their files ends: `-` is the input, and all else a file's path
 pub record ScriptOver {F : Type 0} (remaining : F → Option (List ℕ)) (shown : Shown) (pages : ℕ) (script : List ℕ) (words : List (List ℕ)) (s : Streams) (ending : ProgramEnd) : Type 0 where
@@ -149,7 +149,7 @@ abbrev pub RunEnds : {F : Type 0} → (F → Option (List ℕ)) → Shown → �
 RunEnds remaining shown pages script words s ending =
     ScriptOver remaining shown pages script words s ending
     ⊎ (Untouched s
-    × (TellsBadWord s.quiet s.told words ending ⊎ (AreGood words × TellsLostFile s.quiet s.told words ending)))
+    × (TellsBadWord s.quiet s.told words ending ⊎ (AreGood words × TellsLostFile remaining s.quiet s.told words ending)))
 
 -- the line of some bytes, taken for a heap or for a slot
 abbrev pub line_as : ImageKind → List ℕ → List ℕ
@@ -176,13 +176,13 @@ abbrev pub CheckEnds : {F : Type 0} → (F → Option (List ℕ)) → ImageKind 
 CheckEnds remaining k path s ending =
     ((bytes : List ℕ) × IsWhole remaining bytes × CheckOver k bytes s ending)
     ⊎ ((s.new ≡ s.old) × (ending ≡ Fault)
-    × (TellsLoss s.quiet s.told path ⊎ Tells s.quiet s.told (run_fault_text NoMemory)))
+    × (TellsLoss remaining s.quiet s.told path ⊎ Tells s.quiet s.told (run_fault_text NoMemory)))
 
 -- how `check -` ends: with the line of all bytes of the input, or nothing is written and the lost input told
 abbrev pub InputCheckEnds : ImageKind → Streams → ProgramEnd → Type 0
 InputCheckEnds k s ending =
     ((bytes : List ℕ) × IsAllOf s.before s.after bytes × CheckOver k bytes s ending)
-    ⊎ ((s.new ≡ s.old) × (ending ≡ Fault) × TellsLostInput s.after s.quiet s.told)
+    ⊎ ((s.new ≡ s.old) × (ending ≡ Fault) × TellsLostInput s.before s.after s.quiet s.told)
 
 -- how what is asked for ends
 abbrev pub RequestEnds : {F : Type 0} → (F → Option (List ℕ)) → Request → Streams → ProgramEnd → Type 0

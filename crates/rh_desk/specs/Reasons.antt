@@ -1,9 +1,10 @@
 -- Why a word or a file can't be used: the line below the one that names it.
-use Rattle.std.specs.Prelude.{ℕ, ◌==◌, not, Bool, if◌then◌else◌, List, codes, length}
+use Rattle.std.specs.Prelude.{ℕ, ◌==◌, ◌<◌, not, Bool, if◌then◌else◌, List, codes, length, Option, IfSome, ⊤}
 use Rattle.std.specs.List.{position_or_len}
 use Rattle.std.specs.declared.io.ErrorKind.{ErrorKind}
 use Rattle.std.specs.declared.io.ErrorKind.TheVariants as kind
 use Rattle.rh_defs.specs.Forms.{is_name}
+use Rattle.rh_defs.specs.declared.sizes.TheConstants.{LONGEST_FILE}
 use Rattle.rh_desk.specs.FileWords.{word_name, word_path}
 use Rattle.rh_desk.specs.declared.reasons.FileLoss.{FileLoss}
 use Rattle.rh_desk.specs.declared.reasons.FileLoss.TheVariants.{Missing, Folder, Denied, TooLong, Unreadable}
@@ -31,6 +32,11 @@ loss_of kind.NotADirectory = Missing
 loss_of kind.IsADirectory = Folder
 loss_of kind.PermissionDenied = Denied
 loss_of k = Unreadable
+
+-- a file may be told as too long where some file has more bytes than it may, and for another reason at all times
+abbrev pub MayBeLost : {F : Type 0} → (F → Option (List ℕ)) → FileLoss → Type 0
+MayBeLost {F} remaining TooLong = (file : F) × IfSome (remaining file) (λ had. LONGEST_FILE < length had)
+MayBeLost remaining loss = ⊤
 
 abbrev pub loss_text : FileLoss → List ℕ
 loss_text Missing = codes "  no such file\n"

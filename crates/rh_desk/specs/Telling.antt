@@ -1,12 +1,12 @@
 -- What the program tells of faults.
-use Rattle.std.specs.Prelude.{◌≡◌, ◌⊎◌, ℕ, ◌==◌, false, if◌then◌else◌, List, [], ◌∷◌, ◌++◌, flat_map, length, codes, Contains}
+use Rattle.std.specs.Prelude.{◌≡◌, ◌⊎◌, ℕ, ◌==◌, false, if◌then◌else◌, List, [], ◌∷◌, ◌++◌, flat_map, length, codes, Contains, Option}
 use Rattle.std.specs.Char.{is_ascii_control}
 use Rattle.hex.specs.Hex.{encode_lower}
 use Rattle.rh_lines.specs.Flow.{Output, Takes}
 use Rattle.rh_session.specs.declared.status.RunFault.{RunFault}
 use Rattle.rh_session.specs.declared.status.RunFault.TheVariants.{NoMemory, ReadFailed, WriteFailed, TooLong}
 use Rattle.rh_desk.specs.FileWords.{IsFirstBad, word_path}
-use Rattle.rh_desk.specs.Reasons.{loss_text, word_fault, word_fault_text}
+use Rattle.rh_desk.specs.Reasons.{MayBeLost, loss_text, word_fault, word_fault_text}
 use Rattle.rh_desk.specs.declared.program_end.ProgramEnd.{ProgramEnd}
 use Rattle.rh_desk.specs.declared.program_end.ProgramEnd.TheVariants.{WrongWords, Fault}
 use Rattle.rh_desk.specs.declared.reasons.FileLoss.{FileLoss}
@@ -44,9 +44,9 @@ shown_path path = if length path == 0 then codes "'' (an empty path)" else told_
 abbrev pub lost_file_text : List ℕ → FileLoss → List ℕ
 lost_file_text path loss = codes "rh_desk: file " ++ (shown_path path ++ (codes "\n" ++ loss_text loss))
 
--- a file that can't be had was told, with some reason
-abbrev pub TellsLoss : Output → Output → List ℕ → Type 0
-TellsLoss old new path = (loss : FileLoss) × Tells old new (lost_file_text path loss)
+-- a file that can't be had was told, with a reason for which it may be lost
+abbrev pub TellsLoss : {F : Type 0} → (F → Option (List ℕ)) → Output → Output → List ℕ → Type 0
+TellsLoss remaining old new path = (loss : FileLoss) × MayBeLost remaining loss × Tells old new (lost_file_text path loss)
 
 -- the first bad word was told, or that memory was refused
 abbrev pub TellsBadWord : Output → Output → List (List ℕ) → ProgramEnd → Type 0
@@ -55,13 +55,13 @@ TellsBadWord old new words ending =
     ⊎ ((word : List ℕ) × (ending ≡ WrongWords) × IsFirstBad words word × Tells old new (bad_word_text word))
 
 -- the path of one of the words was told, since its file can't be had
-abbrev pub TellsLostFile : Output → Output → List (List ℕ) → ProgramEnd → Type 0
-TellsLostFile old new words ending =
-    (word : List ℕ) × (ending ≡ Fault) × Contains words word × TellsLoss old new (word_path word)
+abbrev pub TellsLostFile : {F : Type 0} → (F → Option (List ℕ)) → Output → Output → List (List ℕ) → ProgramEnd → Type 0
+TellsLostFile remaining old new words ending =
+    (word : List ℕ) × (ending ≡ Fault) × Contains words word × TellsLoss remaining old new (word_path word)
 
 -- the first bad word was told, or a lost file
-abbrev pub TellsBadFile : Output → Output → List (List ℕ) → ProgramEnd → Type 0
-TellsBadFile old new words ending = TellsBadWord old new words ending ⊎ TellsLostFile old new words ending
+abbrev pub TellsBadFile : {F : Type 0} → (F → Option (List ℕ)) → Output → Output → List (List ℕ) → ProgramEnd → Type 0
+TellsBadFile remaining old new words ending = TellsBadWord old new words ending ⊎ TellsLostFile remaining old new words ending
 
 -- nothing more was told, or that a script which can't be read is a folder
 abbrev pub TellsFolder : Output → Output → ProgramEnd → Type 0

@@ -71,4 +71,5 @@ pub mod ShareLaws
 pub mod AcceptSteps
 pub mod TakeSaves
 pub mod Examples
+mod BlockRows
 pub mod Common

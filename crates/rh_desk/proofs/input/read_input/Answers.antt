@@ -1,4 +1,5 @@
-use Rattle.std.proofs.Common.{rules, ◌≡◌, true, inl, inr, refl}
+use Rattle.std.proofs.Common.{rules, ◌≡◌, ◌<◌, length, true, inl, inr, refl}
+use Rattle.rh_defs.specs.declared.sizes.TheConstants.{LONGEST_FILE}
 use Rattle.rh_session.specs.declared.status.RunFault.TheVariants.{NoMemory, ReadFailed}
 use Rattle.rh_desk.proofs.input.read_input.Goals as goal
 
@@ -6,6 +7,11 @@ pub returns-in-Err-clause-told : goal.returns-in-Err-clause-told
 returns-in-Err-clause-told g c =
     let failed : (g.I.Source.input c.read.new.self).failed ≡ true = search rules in
     rw (← c.loop-piece.invariant.quiet) (inl (failed, c.ended.ensures.told ReadFailed refl))
+
+pub returns-clause-told : goal.returns-clause-told
+returns-clause-told g c =
+    let many : LONGEST_FILE < length c.loop-piece.bytes.items = search rules in
+    rw (← c.loop-piece.invariant.quiet) (inr (inl ((_, many, c.loop-piece.invariant.read), c.tell_file.ensures.told)))
 
 pub returns-then-is_err-clause-told : goal.returns-then-is_err-clause-told
 returns-then-is_err-clause-told g c = rw (← c.loop-piece.invariant.quiet) (inr (inr (c.ended-then-is_err.ensures.told NoMemory refl)))
