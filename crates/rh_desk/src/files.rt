@@ -100,7 +100,8 @@ pub fn read_whole<R: rt::Files, E: Sink>(
     ensures ok { IfOk result (λ bytes. vec_len bytes ≤ LONGEST_FILE) }
     ensures whole { IfOk result (λ bytes. IsWhole R.File.remaining (vec_items bytes)) }
     ensures err { IfErr result (λ ending. ending ≡ ProgramEnd.Fault) }
-    ensures told { IfErr result (λ ending. TellsLoss R.File.remaining (E.output errors.old) (E.output errors.new) path.now
+    ensures told { IfErr result (λ ending.
+        TellsLoss R.File.remaining (E.output errors.old) (E.output errors.new) path.now
         ⊎ Tells (E.output errors.old) (E.output errors.new) (run_fault_text RunFault.NoMemory)) }
     ensures quiet { IfOk result (λ _. E.output errors.new ≡ E.output errors.old) }
 {

@@ -25,8 +25,8 @@ returns-in_default-clause-told g c =
 pub returns-in_err-bytes-clause-told : goal.returns-in_err-bytes-clause-told
 returns-in_err-bytes-clause-told g c =
     rw (← c.loop-word.invariant.quiet)
-    (at-err _ _ _ c.from_residual.ensures.1 (lost-file g.R.File.Read.remaining _ _ _ _ _ _ _ _ c.loop-word-test.true c.in-Some.ensures c.in_err-bytes.ensures.err
-    c.in_err-bytes.ensures.told))
+    (at-err _ _ _ c.from_residual.ensures.1 (lost-file g.R.File.Read.remaining _ _ _ _ _ _ _ _ c.loop-word-test.true c.in-Some.ensures
+    c.in_err-bytes.ensures.err c.in_err-bytes.ensures.told))
 
 pub returns-then-contains-clause-wrong : goal.returns-then-contains-clause-wrong
 returns-then-contains-clause-wrong g c = λ ending.

@@ -35,4 +35,5 @@ returns-clause-ends g c =
     let other : c.args.request.now.script.now ≢ codes "-" = search rules in
     rw (← (c.in-Ok.ensures.quiet ∙ c.in_default.ensures.quiet))
     (script-over g.R.File.Read.remaining _ _ _ _ _ _ _ c.in_default.ensures.good c.in-Ok.ensures.named c.in-Ok.ensures.whole
-    (λ is. absurd (other is)) (λ named. inr ((refl, refl), c.tell_file.ensures.ending, inl (_, lost-by g.R.File.Read.remaining _ _ c.of.ensures, c.tell_file.ensures.told))))
+    (λ is. absurd (other is)) (λ named.
+    inr ((refl, refl), c.tell_file.ensures.ending, inl (_, lost-by g.R.File.Read.remaining _ _ c.of.ensures, c.tell_file.ensures.told))))
