@@ -128,7 +128,8 @@ word-in ws i d inside =
     subst (Contains (texts ws)) at.1 (Contains-get_or (texts ws) i d.now at.0)
 
 -- the file of a word can't be had, or memory was refused
-pub lost-file : {F : Type 0} (remaining : F → Option (List ℕ)) (old new : Output) (ws : List (Bor (List ℕ))) (i : ℕ) (d : Bor (List ℕ)) (name path : List ℕ) (ending : ProgramEnd)
+pub lost-file : {F : Type 0} (remaining : F → Option (List ℕ)) (old new : Output)
+    (ws : List (Bor (List ℕ))) (i : ℕ) (d : Bor (List ℕ)) (name path : List ℕ) (ending : ProgramEnd)
     → i < length ws
     → Some (name, path) ≡ file_word (get_or ws i d).now → ending ≡ Fault
     → TellsLoss remaining old new path ⊎ Tells old new (run_fault_text NoMemory)
