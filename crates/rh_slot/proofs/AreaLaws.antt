@@ -1,9 +1,10 @@
 -- Areas that are edited, and their pages.
-use Rattle.rh_slot.proofs.Common.{◌≡◌, ℕ, ◌+◌, ◌*◌, ◌≤◌, List, length, refl, sym, ap, subst, ◌∙◌, arith, Result, Ok, Err, OnOk, PAGE, part, with_part, Memory}
+use Rattle.rh_slot.proofs.Common.{◌≡◌, ℕ, ◌+◌, ◌-◌, ◌*◌, ◌≤◌, ◌++◌, List, length, length-append, length-replicate, replicate, refl, sym, ap}
+use Rattle.rh_slot.proofs.Common.{subst, ◌∙◌, arith, Result, Ok, Err, OnOk, PAGE, part, with_part, Memory}
 use Rattle.rh_slot.proofs.Common.{Edited, Resized, bytes, put_outside, length-part, bytes-with_bytes, Carried}
 use Rattle.rh_defs.specs.Memory.{with_bytes, grown, shrunk}
-use Rattle.rh_defs.proofs.BytesLaws.{put_inside, get-part}
-use Rattle.rh_defs.proofs.MemoryLaws.{Edited-with_bytes, SameIn-grown, SameIn-shrunk, length-grown, length-shrunk, OnlyArea-grown, OnlyArea-shrunk}
+use Rattle.rh_defs.proofs.BytesLaws.{put_inside, get-part, part-append_right, part-zeros}
+use Rattle.rh_defs.proofs.MemoryLaws.{bytes-grown, Edited-with_bytes, SameIn-grown, SameIn-shrunk, length-grown, length-shrunk, OnlyArea-grown, OnlyArea-shrunk}
 
 -- bytes put into an area
 pub Edited-put : (m n : Memory) (id lo hi : ℕ) (xs : List ℕ) → n ≡ with_bytes m id (with_part (bytes m id) lo xs) → lo + length xs ≤ hi → Edited m n id lo hi
@@ -27,6 +28,18 @@ pub Resized-grown : (m n : Memory) (id k count : ℕ) → n ≡ grown m id k →
 Resized-grown m n id k count e h l =
     subst (λ (r : Memory). Resized m r id (length (bytes m id)) count) (sym e)
     (record { same = SameIn-grown m id k 0 (length (bytes m id)) (omega arith); len = length-grown m id k ∙ l; only = OnlyArea-grown m id k h })
+
+-- the pages that an area was grown by are zeros
+pub zeros-grown : (m n : Memory) (id k : ℕ) → n ≡ grown m id k → (place count : ℕ) → length (bytes m id) ≤ place → place + count ≤ length (bytes n id)
+    → part (bytes n id) place count ≡ replicate count 0
+zeros-grown m n id k e place count le inside =
+    let b = bytes m id in let more = replicate (PAGE * k) 0 in let j = place - length b in
+    let is : bytes n id ≡ b ++ more = ap (λ (r : Memory). bytes r id) e ∙ bytes-grown m id k in
+    let at : place ≡ length b + j = omega arith in
+    let long : length (bytes n id) ≡ length (bytes m id) + length (replicate {A = ℕ} (PAGE * k) 0) = ap length is ∙ length-append b more in
+    let whole : length (replicate {A = ℕ} (PAGE * k) 0) ≡ PAGE * k = length-replicate {A = ℕ} (PAGE * k) 0 in
+    ap (λ l. part l place count) is ∙ ap (λ p. part (b ++ more) p count) at ∙ part-append_right b more j count
+    ∙ part-zeros (PAGE * k) j count (omega arith)
 
 pub Resized-shrunk : (m n : Memory) (id keep k count : ℕ) → n ≡ shrunk m id k → keep + PAGE * k ≤ length (bytes m id)
     → length (bytes m id) ≡ PAGE * count + PAGE * k → Resized m n id keep count

@@ -8,7 +8,10 @@ use Rattle.rh_slot.proofs.Common.{part_of, wider, same_both, in_below, in_above,
 use Rattle.rh_slot.proofs.Common.{block_of-at, Spells-same, BlockRow, Shifted, Walked, FoundAt, FoundFlex, refuse_if-true, refuse_if-false}
 use Rattle.rh_defs.specs.declared.refusal.Refusal.TheVariants.{AnchorInUse}
 use Rattle.rh_defs.specs.Slot.{without, is_used, slot_size, slot_address, slot_free, slot_alloc}
+use Rattle.std.proofs.Common.{ap₂}
+use Rattle.std.proofs.lemmas.List.{replicate-append-replicate}
 use Rattle.rh_defs.proofs.Anchors.{anchors-append}
+use Rattle.rh_defs.proofs.BytesLaws.{part_more}
 use Rattle.rh_defs.proofs.SlotLaws.{Lie-join, Hang-join, IsFree-split, IsFree-join, find, block_of-none}
 use Rattle.rh_slot.proofs.ShiftLaws.{apart, Hang-apart}
 
@@ -189,6 +192,24 @@ pub record AllocSteps (b b1 b2 b3 d : List ℕ) (p n t : ℕ) : Type 0 where
   pub only_cleared : SameOutside b2 b3 (t + 8) (t + 8 + n)
   pub hung : word d p ≡ 32768 + t + 8
   pub only_hung : SameOutside b3 d p (p + 4)
+
+-- of n bytes from a place on those that stood there before are cleared, and the others come as zeros
+pub all_cleared : {b b1 b2 b3 : List ℕ} (t n used end : ℕ) → used ≤ n → (n ≡ used) ⊎ (end ≤ t + 8 + used) → t + 8 + n ≤ length b
+    → SameOutside b b1 t (t + 4) → SameOutside b1 b2 (t + 4) (t + 4 + 4) → SameOutside b2 b3 (t + 8) (t + 8 + used)
+    → part b3 (t + 8) used ≡ replicate used 0
+    → ((place count : ℕ) → end ≤ place → place + count ≤ length b → part b place count ≡ replicate count 0) → part b3 (t + 8) n ≡ replicate n 0
+all_cleared {b} {b1} {b2} {b3} t n used end few (inl e) inside o0 o1 o2 cleared come =
+    ap (part b3 (t + 8)) e ∙ cleared ∙ ap (λ k. replicate k 0) (sym e)
+all_cleared {b} {b1} {b2} {b3} t n used end few (inr high) inside o0 o1 o2 cleared come =
+    let rest = n - used in
+    let all : used + rest ≡ n = omega arith in
+    let place = t + 8 + used in
+    let same : part b3 place rest ≡ part b place rest =
+    part_same b2 b3 place rest (in_above o2 (omega arith)) ∙ part_same b1 b2 place rest (in_above o1 (omega arith))
+    ∙ part_same b b1 place rest (in_above o0 (omega arith)) in
+    ap (part b3 (t + 8)) (sym all) ∙ part_more b3 (t + 8) used rest
+    ∙ ap₂ (λ x y. x ++ y) cleared (same ∙ come place rest high (omega arith)) ∙ replicate-append-replicate used rest 0
+    ∙ ap (λ k. replicate k 0) all
 
 -- what they make of the slot
 pub alloced : {b b1 b2 b3 d : List ℕ} {s : Slot} {k p n t : ℕ} → SlotWords b s → IsFree k s.blocks → k < anchor_count → p ≡ 4 * k → t ≡ slot_length s

@@ -1,6 +1,6 @@
 //! The area of a slot: its words and bytes, and its pages. Places are in bytes from the area's first one.
-ghost use Rattle.std.specs.Prelude.{◌≡◌, ◌+◌, ◌<◌, OnErr, ◌^◌, ◌≤◌, length, ◌↔◌, OnOk, IsErr, IsErrOf, ◌*◌, ◌-◌, ◌/◌};
-ghost use Rattle.std.specs.Prelude.{replicate};
+ghost use Rattle.std.specs.Prelude.{◌≡◌, ℕ, ◌+◌, ◌<◌, OnErr, ◌^◌, ◌≤◌, length, ◌↔◌, OnOk, IsErr, IsErrOf, ◌*◌};
+ghost use Rattle.std.specs.Prelude.{◌-◌, ◌/◌, replicate};
 ghost use Rattle.rh_defs.specs.Memory.{IsOpen, bytes, Resized, Edited};
 ghost use Rattle.rh_defs.specs.Pieces.{page_size, pages_for};
 ghost use Rattle.rh_defs.specs.Bytes.{word, part, with_part};
@@ -93,6 +93,9 @@ pub fn grow_to<S: Pages>(store: &mut S, area: AreaId, top: usize) -> Result<(), 
     requires small { top < 2 ^ 40 }
     ensures ok { OnOk result (Resized (S.memory store.old) (S.memory store.new) area.0
         (length (bytes (S.memory store.old) area.0)) (pages_for top)) }
+    ensures zeros { OnOk result ((place n : ℕ) → length (bytes (S.memory store.old) area.0) ≤ place
+        → place + n ≤ length (bytes (S.memory store.new) area.0)
+        → part (bytes (S.memory store.new) area.0) place n ≡ replicate n 0) }
     ensures err { OnErr result (S.memory store.new ≡ S.memory store.old) }
     ensures refused { IsErr result ↔ ((S.memory store.old).free < pages_for top - length
         (bytes (S.memory store.old) area.0) / page_size) }

@@ -119,13 +119,16 @@ impl Slot {
         }
         let size = n as usize;
         let top = self.top(store);
+        let end = store.len(self.area);
         let Ok(()) = grow_to(store, self.area, top + flex_weight(size)) else {
             return Err(Refusal::NoRoom);
         };
         let word = word_place(anchor);
         write(store, self.area, top, SLOT_START + word);
         write(store, self.area, top + WORD, size);
-        clear(store, self.area, top + FLEX_HEADER, size);
+        // Pages come as zeros: what stood in the area before is cleared alone.
+        let used = size.min(end.saturating_sub(top + FLEX_HEADER));
+        clear(store, self.area, top + FLEX_HEADER, used);
         write(store, self.area, word, SLOT_START + top + FLEX_HEADER);
         Ok(SLOT_START + top + FLEX_HEADER)
     }

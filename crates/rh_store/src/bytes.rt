@@ -2,7 +2,9 @@
 ghost use Rattle.std.specs.Prelude.{◌≡◌, ◌+◌, ◌<◌, ◌≤◌, length, replicate};
 ghost use Rattle.rh_defs.specs.Bytes.{word, with_part, put_word, part};
 
-/// The longest piece of bytes that move over themselves. A page that moves by 64 bytes or fewer has one.
+use rh_defs::sizes::WORD;
+
+/// The longest piece of bytes that move over themselves: the C library moves more by single bytes.
 const LONG: usize = 4032;
 
 /// The piece for what is shorter.
@@ -10,6 +12,12 @@ const MIDDLE: usize = 2048;
 
 /// The piece for what is shorter still, which moves without a call.
 const SHORT: usize = 128;
+
+/// What moves by so many bytes or fewer, in whole words, moves by a distance that is known when this is built.
+const NEAR: usize = 64;
+
+/// What moves by so many bytes or more is copied in pieces that don't lie over their old places.
+const FAR: usize = 1024;
 
 /// The word of four bytes in little-endian order at an offset.
 #[tactic(auto, unfolding(rh_defs::specs::Bytes::word))]
@@ -90,13 +98,17 @@ fn move_whole<const N: usize>(b: &mut [u8], from: usize, to: usize)
     }
 }
 
-/// How many of n bytes the next piece has.
+/// How many of n bytes that move by a gap the next piece has.
 #[inline(always)]
-fn next_piece(n: usize) -> usize
+fn next_piece(n: usize, gap: usize) -> usize
     ensures most { result ≤ n }
     ensures some { 0 < n → 0 < result }
 {
-    if LONG <= n {
+    if 0 < gap && gap <= NEAR && gap % WORD == 0 {
+        n.min(LONG)
+    } else if FAR <= gap {
+        n.min(gap)
+    } else if LONG <= n {
         LONG
     } else if MIDDLE <= n {
         MIDDLE
@@ -105,6 +117,26 @@ fn next_piece(n: usize) -> usize
     } else {
         n
     }
+}
+
+/// Moves n bytes down by D, over themselves. D is known when this is built, and the move is then one `memmove`.
+#[inline(always)]
+fn lower_by<const D: usize>(b: &mut [u8], from: usize, to: usize, n: usize)
+    requires gap { from ≡ to + D }
+    requires source { from + n ≤ length b.old }
+    ensures { b.new ≡ with_part b.old to (part b.old from n) }
+{
+    b[to..from + n].copy_within(D..D + n, 0);
+}
+
+/// Moves n bytes up by D, over themselves, as `lower_by` does.
+#[inline(always)]
+fn raise_by<const D: usize>(b: &mut [u8], from: usize, to: usize, n: usize)
+    requires gap { to ≡ from + D }
+    requires target { to + n ≤ length b.old }
+    ensures { b.new ≡ with_part b.old to (part b.old from n) }
+{
+    b[from..to + n].copy_within(0..n, D);
 }
 
 /// Moves the n bytes of a piece.
@@ -122,6 +154,62 @@ fn move_piece(b: &mut [u8], from: usize, to: usize, n: usize)
     }
 }
 
+/// Moves the n bytes of a piece down.
+fn lower(b: &mut [u8], from: usize, to: usize, n: usize)
+    requires source { from + n ≤ length b.old }
+    requires down { to ≤ from }
+    ensures { b.new ≡ with_part b.old to (part b.old from n) }
+{
+    match from - to {
+        4 => lower_by::<4>(b, from, to, n),
+        8 => lower_by::<8>(b, from, to, n),
+        12 => lower_by::<12>(b, from, to, n),
+        16 => lower_by::<16>(b, from, to, n),
+        20 => lower_by::<20>(b, from, to, n),
+        24 => lower_by::<24>(b, from, to, n),
+        28 => lower_by::<28>(b, from, to, n),
+        32 => lower_by::<32>(b, from, to, n),
+        36 => lower_by::<36>(b, from, to, n),
+        40 => lower_by::<40>(b, from, to, n),
+        44 => lower_by::<44>(b, from, to, n),
+        48 => lower_by::<48>(b, from, to, n),
+        52 => lower_by::<52>(b, from, to, n),
+        56 => lower_by::<56>(b, from, to, n),
+        60 => lower_by::<60>(b, from, to, n),
+        64 => lower_by::<64>(b, from, to, n),
+        gap if n <= gap => copy_down(b, from, to, n),
+        _ => move_piece(b, from, to, n),
+    }
+}
+
+/// Moves the n bytes of a piece up.
+fn raise(b: &mut [u8], from: usize, to: usize, n: usize)
+    requires target { to + n ≤ length b.old }
+    requires up { from ≤ to }
+    ensures { b.new ≡ with_part b.old to (part b.old from n) }
+{
+    match to - from {
+        4 => raise_by::<4>(b, from, to, n),
+        8 => raise_by::<8>(b, from, to, n),
+        12 => raise_by::<12>(b, from, to, n),
+        16 => raise_by::<16>(b, from, to, n),
+        20 => raise_by::<20>(b, from, to, n),
+        24 => raise_by::<24>(b, from, to, n),
+        28 => raise_by::<28>(b, from, to, n),
+        32 => raise_by::<32>(b, from, to, n),
+        36 => raise_by::<36>(b, from, to, n),
+        40 => raise_by::<40>(b, from, to, n),
+        44 => raise_by::<44>(b, from, to, n),
+        48 => raise_by::<48>(b, from, to, n),
+        52 => raise_by::<52>(b, from, to, n),
+        56 => raise_by::<56>(b, from, to, n),
+        60 => raise_by::<60>(b, from, to, n),
+        64 => raise_by::<64>(b, from, to, n),
+        gap if n <= gap => copy_up(b, from, to, n),
+        _ => move_piece(b, from, to, n),
+    }
+}
+
 /// Moves n bytes down over themselves, in pieces from the lowest on.
 fn slide_down(b: &mut [u8], from: usize, to: usize, n: usize)
     requires source { from + n ≤ length b.old }
@@ -130,8 +218,8 @@ fn slide_down(b: &mut [u8], from: usize, to: usize, n: usize)
 {
     let mut moved = 0;
     'walk: while moved < n {
-        let size = next_piece(n - moved);
-        move_piece(b, from + moved, to + moved, size);
+        let size = next_piece(n - moved, from - to);
+        lower(b, from + moved, to + moved, size);
         moved += size;
     }
 }
@@ -144,9 +232,9 @@ fn slide_up(b: &mut [u8], from: usize, to: usize, n: usize)
 {
     let mut left = n;
     'walk: while 0 < left {
-        let size = next_piece(left);
+        let size = next_piece(left, to - from);
         left -= size;
-        move_piece(b, from + left, to + left, size);
+        raise(b, from + left, to + left, size);
     }
 }
 

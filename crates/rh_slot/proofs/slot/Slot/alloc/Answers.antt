@@ -1,7 +1,7 @@
-use Rattle.rh_slot.proofs.Common.{◌+◌, ◌*◌, refl, ap, ◌∙◌, arith, PAGE, pages_for, slot_in}
+use Rattle.rh_slot.proofs.Common.{◌≡◌, ◌⊎◌, ◌≤◌, ◌+◌, ◌*◌, refl, ap, ◌∙◌, arith, inl, inr, cases_lt, wider, PAGE, pages_for, slot_in}
 use Rattle.rh_slot.proofs.SpanLaws.{budging_same}
 use Rattle.rh_slot.proofs.LeaveLaws.{leaves, refuses, then_edited}
-use Rattle.rh_slot.proofs.FlexLaws.{alloced, words_grown, paged, alloc_used, alloc_full, alloc_done, pages_more, has_room, has_none, false-true}
+use Rattle.rh_slot.proofs.FlexLaws.{all_cleared, alloced, words_grown, paged, alloc_used, alloc_full, alloc_done, pages_more, has_room, has_none, false-true}
 use Rattle.rh_slot.proofs.slot.Slot.alloc.Goals as goal
 
 pub returns-in-Some : goal.returns-in-Some
@@ -26,6 +26,10 @@ returns g c =
     let l2 = c.clear.ensures.only.outside.len in
     let l3 = c.write-3.ensures.only.outside.len in
     let lr = r.len in
+    let end = c.len-end.ensures in
+    let most = c.min-used.ensures in
+    let few : (c.args.n ≡ c.min-used.result) ⊎ (c.len-end.result ≤ c.top-top.result + 8 + c.min-used.result) =
+    elim (cases_lt c.min-used.result c.args.n) [ inl h ↦ inr (omega arith) | inr h ↦ inl (omega arith) ] in
     let q = pages_more _ s _ _ _ lb et ew in
     let a = alloced (words_grown _ _ _ c.requires.slot.spells r.same (omega arith)) c.in_default.ensures c.requires.anchor c.word_place-word.ensures et
     (omega arith)
@@ -34,8 +38,10 @@ returns g c =
       only_header = c.write.ensures.only.outside;
       sized = c.write-2.ensures.word;
       only_sized = c.write-2.ensures.only.outside;
-      cleared = c.clear.ensures.block;
-      only_cleared = c.clear.ensures.only.outside;
+      cleared = all_cleared c.top-top.result c.args.n c.min-used.result c.len-end.result (omega arith) few (omega arith) c.write.ensures.only.outside
+          c.write-2.ensures.only.outside c.clear.ensures.only.outside c.clear.ensures.block
+          (λ place count high inside. c.in-Ok.ensures.zeros place count (omega arith) inside);
+      only_cleared = wider c.clear.ensures.only.outside (omega arith) (omega arith);
       hung = c.write-3.ensures.word;
       only_hung = c.write-3.ensures.only.outside;
     }) in
