@@ -19,8 +19,8 @@ use Rattle.rh_scene.proofs.Holders.{area-at, stands-count, stands-fixed, stands-
 use Rattle.rh_scene.proofs.Places.{past-end}
 use Rattle.rh_pictures.proofs.DrawingLemmas.{task-stands}
 use Rattle.rh_pictures.proofs.PageLemmas.{seen-made}
-use Rattle.rh_pictures.specs.declared.sheet.owners.Named.TheVariants.{Area, Slot}
-use Rattle.rh_pictures.specs.declared.sheet.owners.OwnerSight.{OwnerSight}
+use Rattle.rh_pictures.specs.declared.owners.Named.TheVariants.{Area, Slot}
+use Rattle.rh_pictures.specs.declared.owners.OwnerSight.{OwnerSight}
 use Rattle.rh_pictures.specs.PaintedOwners.{IsOwnerOf, IsOwnerSeen}
 
 -- ---- how many they are

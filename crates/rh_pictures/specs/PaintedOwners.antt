@@ -8,9 +8,9 @@ use Rattle.rh_figure.specs.Share as share
 use Rattle.rh_figure.specs.Share.{Holding, count_of, holdings}
 use Rattle.rh_sheet.specs.Owners.{area_tag, slot_tag, owner_tag}
 use Rattle.rh_scene.specs.Seen.{owner_seen}
-use Rattle.rh_pictures.specs.declared.sheet.owners.Named.{Named}
-use Rattle.rh_pictures.specs.declared.sheet.owners.Named.TheVariants.{Area, Slot}
-use Rattle.rh_pictures.specs.declared.sheet.owners.OwnerSight.{OwnerSight}
+use Rattle.rh_pictures.specs.declared.owners.Named.{Named}
+use Rattle.rh_pictures.specs.declared.owners.Named.TheVariants.{Area, Slot}
+use Rattle.rh_pictures.specs.declared.owners.OwnerSight.{OwnerSight}
 
 -- who it is
 abbrev pub who_seen : Named → share.Owner

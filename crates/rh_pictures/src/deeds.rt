@@ -31,6 +31,17 @@ pub struct Deed<'a> {
     pub wanted: bool,
 }
 
+/// What stands above a figure: the step's number, its line of the script, the front of its reply and how many lines
+/// that has; and whether there is no figure, since memory stays as it is.
+#[derive(Clone, Copy)]
+pub struct Above<'a> {
+    pub number: u32,
+    pub line: &'a [u8],
+    pub front: &'a [u8],
+    pub count: u32,
+    pub is_still: bool,
+}
+
 /// Does a command, puts the front of its reply in its place, and answers the reply and how many lines it has. A
 /// question changes nothing, and its answer's words and numbers aren't needed: Done stands in their place.
 pub fn answer<D: Drawn>(drawn: &mut D, command: &Command, front: &mut Front) -> (Reply, u32)

@@ -1,7 +1,6 @@
 //! The first lines of a reply, and how many lines it has.
 
-ghost use Rattle.std.specs.Prelude.{◌≡◌, ◌≤◌, IsTrue, length};
-ghost use Rattle.rh_defs.specs.Desk.{most_made};
+ghost use Rattle.std.specs.Prelude.{IsTrue};
 ghost use Rattle.rh_defs.specs.Questions.{Nothing, asked};
 ghost use Rattle.rh_defs.specs.Range.{can_be_asked};
 ghost use Rattle.rh_defs.specs.Text.{answer_text, fault_text, first_line};
@@ -54,16 +53,4 @@ fn look_over<S: Sight>(sight: &S)
         let _name = task.name.as_bytes();
         i += 1;
     }
-}
-
-/// How many areas were made at run.
-pub fn count_made<S: Sight>(sight: &S) -> usize
-    ensures count { result ≡ length (S.desk sight.now).made }
-    ensures few { result ≤ most_made }
-{
-    let mut i = 0;
-    'areas: while let Some(_area) = sight.made(i) {
-        i += 1;
-    }
-    i
 }

@@ -2,9 +2,11 @@
 
 pub mod artist;
 pub mod figure;
+pub mod letters;
 pub mod mapper;
 pub mod modules;
 pub mod pool;
 pub mod running;
 pub mod slots;
 pub mod steps;
+pub mod transfers;

@@ -11,7 +11,6 @@ pub mod letters;
 pub mod modules;
 pub mod notes;
 pub mod numbers;
-pub mod owners;
 pub mod painter;
 pub mod pool;
 pub mod progress;

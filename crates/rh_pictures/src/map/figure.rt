@@ -9,13 +9,13 @@ ghost use Rattle.rh_defs.specs.Post.{most_messages};
 
 use crate::lists::Lists;
 use crate::map::artist::MapArtist;
+use crate::map::letters::print_letter_part;
 use crate::map::modules::print_module_part;
 use crate::map::pool::print_pool_part;
 use crate::map::slots::print_slot_part;
+use crate::map::transfers::print_transfer_part;
 use crate::walks::areas::show_areas;
 use crate::walks::changes::show_changes;
-use crate::walks::letters::print_letter_part;
-use crate::walks::transfers::print_transfer_part;
 use rh_lines::Pen;
 use rh_map::put_line;
 use rh_scene::{Sight, Step};

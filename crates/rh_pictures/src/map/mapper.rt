@@ -16,11 +16,11 @@ ghost use Rattle.rh_map.specs.Written.{shown_lines};
 ghost use Rattle.rh_session.specs.Outcome.{status_of};
 ghost use Rattle.rh_scene.specs.SightPages.{share_in};
 
-use crate::deeds::{Deed, and_not, answer, is_wanted, rest_fault, step_of};
+use crate::deeds::{Above, Deed, and_not, answer, is_wanted, rest_fault, step_of};
 use crate::drawn::Drawn;
 use crate::excerpt::excerpt_fault;
 use crate::lists::Lists;
-use crate::map::steps::{Above, print_step};
+use crate::map::steps::print_step;
 use arrayvec::ArrayVec;
 use rh_defs::{Command, LineFault, Question, Reply};
 use rh_lines::{Pen, read_line};

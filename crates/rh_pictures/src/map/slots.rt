@@ -13,6 +13,7 @@ ghost use Rattle.rh_map.specs.Written.{shown_lines};
 ghost use Rattle.rh_scene.specs.Seen.{IsTaskSeen};
 ghost use Rattle.rh_scene.specs.Steps.{IsStepOf, scene_at};
 
+use crate::counts::count_tasks;
 use crate::lists::Lists;
 use crate::map::artist::MapArtist;
 use crate::walks::flex_cards::show_flex_cards;
@@ -59,17 +60,6 @@ fn print_one<S: Sight, P: Pen>(
         return;
     }
     print_slot(sight, step, i, task, lists, pen);
-}
-
-/// How many tasks are live.
-pub fn count_tasks<S: Sight>(sight: &S) -> usize
-    ensures { result ≡ length (S.desk sight.now).tasks }
-{
-    let mut i = 0;
-    'tasks: while let Some(_task) = sight.task(i) {
-        i += 1;
-    }
-    i
 }
 
 /// Writes the heading of the slot of a task, which stands at a place in order of handle.

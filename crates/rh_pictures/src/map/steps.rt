@@ -7,22 +7,12 @@ ghost use Rattle.rh_map.specs.Written.{shown_lines};
 ghost use Rattle.rh_scene.specs.Steps.{IsStepOf, scene_at};
 ghost use Rattle.rh_defs.specs.Post.{most_messages};
 
+use crate::deeds::Above;
 use crate::lists::Lists;
 use crate::map::figure::print_figure;
 use rh_lines::Pen;
 use rh_map::{print_reply_lines, print_step_line, print_still};
 use rh_scene::{Sight, Step};
-
-/// What stands above a figure: the step's number, its line of the script, the front of its reply and how many lines
-/// that has; and whether there is no figure, since memory stays as it is.
-#[derive(Clone, Copy)]
-pub struct Above<'a> {
-    pub number: u32,
-    pub line: &'a [u8],
-    pub front: &'a [u8],
-    pub count: u32,
-    pub is_still: bool,
-}
 
 /// Writes a step.
 pub fn print_step<S: Sight, P: Pen>(

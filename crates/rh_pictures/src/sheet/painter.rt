@@ -27,11 +27,10 @@ ghost use Rattle.rh_scene.specs.SightMessages.{message_items};
 ghost use Rattle.rh_scene.specs.SightPages.{share_in};
 ghost use Rattle.rh_scene.specs.Steps.{IsSender};
 
-use crate::deeds::{Deed, and_not, answer, is_wanted, rest_fault, step_of};
+use crate::deeds::{Above, Deed, and_not, answer, is_wanted, rest_fault, step_of};
 use crate::drawn::Drawn;
 use crate::excerpt::excerpt_fault;
 use crate::lists::Lists;
-use crate::map::steps::Above;
 use crate::sheet::notes::{Notes, note_step};
 use crate::sheet::progress::Progress;
 use crate::sheet::steps::{print_rest, print_step};

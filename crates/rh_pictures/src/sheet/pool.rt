@@ -12,7 +12,7 @@ ghost use Rattle.rh_sheet.specs.Pool.{freed_squares, owner_classes, owner_senten
 ghost use Rattle.rh_sheet.specs.Pool.{pool_description, pool_figure, pool_height as height_of_pool, tags_text};
 ghost use Rattle.rh_scene.specs.Steps.{IsStepOf, scene_at};
 
-use crate::sheet::owners::{Named, OwnerSight, owner_at, takes_told};
+use crate::owners::{Named, OwnerSight, owner_at, takes_told};
 use crate::walks::page_changes::freed_of;
 use rh_elements::{
     add_tint, print_described, print_figure_end, print_figure_open, print_pool_side, print_squares,

@@ -16,8 +16,8 @@ ghost use Rattle.rh_sheet.specs.SheetSteps.{slot_part};
 ghost use Rattle.rh_scene.specs.Seen.{IsTaskSeen};
 ghost use Rattle.rh_scene.specs.Steps.{IsStepOf, scene_at};
 
+use crate::counts::count_tasks;
 use crate::lists::Lists;
-use crate::map::slots::count_tasks;
 use crate::sheet::arrows::print_arrow_of;
 use crate::sheet::bands::BandForm;
 use crate::sheet::rows::{put_pages, rows_for};

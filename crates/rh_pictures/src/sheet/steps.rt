@@ -8,8 +8,8 @@ ghost use Rattle.rh_sheet.specs.SheetSteps.{said_end, step_end, step_text};
 ghost use Rattle.rh_scene.specs.Steps.{IsStepOf, scene_at};
 ghost use Rattle.rh_defs.specs.Post.{most_messages};
 
+use crate::deeds::Above;
 use crate::lists::Lists;
-use crate::map::steps::Above;
 use crate::sheet::artist::SheetArtist;
 use crate::sheet::figure::print_figure;
 use crate::sheet::notes::Notes;

@@ -8,20 +8,17 @@ ghost use Rattle.rh_defs.specs.Post.{most_messages};
 ghost use Rattle.rh_defs.specs.Desk.{Task};
 ghost use Rattle.rh_pictures.specs.DrawnLetters.{has_letters_in};
 ghost use Rattle.rh_pictures.specs.Inner.LettersBehind.{entry_seen, letterboxes_in};
-ghost use Rattle.rh_pictures.specs.Parts.{letter_part};
 ghost use Rattle.rh_figure.specs.Figure.{letterboxes};
 ghost use Rattle.rh_figure.specs.declared.limits.TheConstants.{MOST_LISTED};
-ghost use Rattle.rh_map.specs.Written.{shown_lines};
 ghost use Rattle.rh_map.specs.declared.letterboxes.MessageEntry.{MessageEntry};
 ghost use Rattle.rh_scene.specs.SightMessages.{is_held_by, waits_for};
 ghost use Rattle.rh_scene.specs.Steps.{IsStepOf, scene_at};
 
 use crate::artist::Artist;
-use crate::map::artist::MapArtist;
 use rh_defs::{Action, EventCode, Handle, MessageItem, Name, Ref};
 use rh_figure::limits::MOST_LISTED;
 use rh_lines::Pen;
-use rh_map::{MessageEntry, put_line};
+use rh_map::MessageEntry;
 use rh_scene::{Sight, Step, held_by};
 
 /// No message, in a place for one.
@@ -36,21 +33,6 @@ const NO_ENTRY: MessageEntry = MessageEntry {
 struct Waits {
     first: [MessageEntry; MOST_LISTED],
     count: usize,
-}
-
-/// Writes the messages of each task that has some, below a heading.
-pub fn print_letter_part<S: Sight, P: Pen>(sight: &S, step: &Step<'_>, pen: &mut P)
-    requires step { IsStepOf (S.desk sight.now) step.now }
-    requires few { length step.now.messages.now ≤ most_messages }
-    ensures { P.offered pen.new ≡ P.offered pen.old
-        ++ shown_lines (letter_part (scene_at (S.desk sight.now) step.now)) }
-{
-    sight.recall_desk();
-    if !has_letterboxes(sight, step.messages) {
-        return;
-    }
-    put_line(b"Messages", pen);
-    show_letterboxes(sight, step, &MapArtist, pen);
 }
 
 /// Whether some task has a message.

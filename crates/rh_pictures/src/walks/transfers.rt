@@ -1,38 +1,21 @@
-//! Transfers: a line for each, with the record of either side.
+//! Transfers, with the record of either side.
 
 ghost use Rattle.std.specs.Prelude.{◌≡◌, ◌==◌, ◌||◌, ◌∷◌, ◌++◌, [], find, flat_map, length, map, not};
 ghost use Rattle.std.specs.List.{list_any};
 ghost use Rattle.std.specs.Option.{option_map};
 ghost use Rattle.rh_defs.specs.Questions.{in_item as in_item_of, out_item as out_item_of};
 ghost use Rattle.rh_defs.specs.Records.{in_id as in_id_of, out_id as out_id_of};
-ghost use Rattle.rh_pictures.specs.Parts.{transfer_part};
 ghost use Rattle.rh_pictures.specs.DrawnSides.{ins_of, outs_of};
 ghost use Rattle.rh_pictures.specs.Inner.TransferWays.{alone_among, comes_alone, goes_out, ins_named, outs_named};
 ghost use Rattle.rh_figure.specs.Figure.{has_id as has_id_of, transfers_of};
-ghost use Rattle.rh_figure.specs.Scene.{Before, Marks, scene_of};
-ghost use Rattle.rh_figure.specs.Share.{Share};
 ghost use Rattle.rh_map.specs.Sides.{side_of};
-ghost use Rattle.rh_map.specs.Written.{shown_lines};
 
 use crate::artist::Artist;
-use crate::map::artist::MapArtist;
 use crate::walks::usage::{in_id, out_id};
 use rh_defs::{Incoming, Name, Outgoing, RecordItem, Ref, State};
 use rh_lines::Pen;
-use rh_map::{Side, put_line};
+use rh_map::Side;
 use rh_scene::{Sight, TaskSight};
-
-/// Writes the transfers that go out, each with the side that comes in, and those that only come in, below a heading.
-pub fn print_transfer_part<S: Sight, P: Pen>(sight: &S, pen: &mut P)
-    ensures { (s : Share) (b : Before) (m : Marks) → P.offered pen.new ≡ P.offered pen.old
-        ++ shown_lines (transfer_part (scene_of (S.desk sight.now) s b m)) }
-{
-    if !has_transfers(sight) {
-        return;
-    }
-    put_line(b"Transfers", pen);
-    show_transfers(sight, &MapArtist, pen);
-}
 
 /// Shows the transfers that go out, each with the side that comes in, and those that only come in.
 pub fn show_transfers<S: Sight, A: Artist, P: Pen>(sight: &S, artist: &A, pen: &mut P)

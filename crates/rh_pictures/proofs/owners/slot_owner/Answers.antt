@@ -1,5 +1,5 @@
 use Rattle.rh_pictures.proofs.OwnerLemmas.{slot-owner}
-use Rattle.rh_pictures.proofs.sheet.owners.slot_owner.Goals as goal
+use Rattle.rh_pictures.proofs.owners.slot_owner.Goals as goal
 
 pub returns-in-Some-clause-some : goal.returns-in-Some-clause-some
 returns-in-Some-clause-some g c =

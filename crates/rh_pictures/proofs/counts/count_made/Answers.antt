@@ -1,6 +1,6 @@
 use Rattle.rh_pictures.proofs.Common.{arith, slice_get_within}
 use Rattle.rh_scene.proofs.Places.{past-end}
-use Rattle.rh_pictures.proofs.excerpt.count_made.Goals as goal
+use Rattle.rh_pictures.proofs.counts.count_made.Goals as goal
 
 pub overflow_add-i : goal.overflow_add-i
 overflow_add-i g c =

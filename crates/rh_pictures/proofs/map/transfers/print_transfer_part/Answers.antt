@@ -3,7 +3,7 @@ use Rattle.rh_figure.specs.Figure.{transfers_of}
 use Rattle.rh_pictures.proofs.TransferLemmas.{sides-some}
 use Rattle.rh_pictures.proofs.UnderLemmas.{is_some, under-none, under-some}
 use Rattle.rh_pictures.proofs.Walks.{lines_then, offered_as, offered_line, offered_none, shown-each}
-use Rattle.rh_pictures.proofs.walks.transfers.print_transfer_part.Goals as goal
+use Rattle.rh_pictures.proofs.map.transfers.print_transfer_part.Goals as goal
 
 pub returns-then-not-has_transfers : goal.returns-then-not-has_transfers
 returns-then-not-has_transfers g c = λ s b m.

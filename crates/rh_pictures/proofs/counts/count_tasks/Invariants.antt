@@ -1,5 +1,5 @@
 use Rattle.std.proofs.Common.{◌≡◌, ◌+◌, ◌-◌, length, drop}
-use Rattle.rh_pictures.proofs.map.slots.count_tasks.Given as goal
+use Rattle.rh_pictures.proofs.counts.count_tasks.Given as goal
 
 -- so many tasks are there at least
 abbrev pub invariant-tasks : goal.invariant-tasks

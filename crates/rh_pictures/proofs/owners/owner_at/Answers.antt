@@ -1,6 +1,6 @@
 use Rattle.std.proofs.Common.{◌+◌, ◌-◌, ◌≤◌, length, arith}
 use Rattle.rh_pictures.proofs.OwnerLemmas.{holdings-few, if-none, none-behind}
-use Rattle.rh_pictures.proofs.sheet.owners.owner_at.Goals as goal
+use Rattle.rh_pictures.proofs.owners.owner_at.Goals as goal
 
 pub returns-else-k-made-clause-none : goal.returns-else-k-made-clause-none
 returns-else-k-made-clause-none g c =

@@ -10,7 +10,7 @@ ghost use Rattle.rh_sheet.specs.Owners.{area_tag as tag_of_area, slot_tag as tag
 ghost use Rattle.rh_sheet.specs.declared.sizes.TheConstants.{TAG_LETTERS};
 ghost use Rattle.rh_scene.specs.SightOwners.{shared_owner};
 
-use crate::excerpt::count_made;
+use crate::counts::count_made;
 use rh_defs::sizes::{FIXED_AREAS, MODULE_AREA};
 use rh_defs::{Handle, Name};
 use rh_elements::Tint;

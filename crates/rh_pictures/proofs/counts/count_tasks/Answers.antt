@@ -1,5 +1,5 @@
 use Rattle.rh_pictures.proofs.Common.{◌<◌, length, ap, arith, slice_get_within, rest-none, rest-some}
-use Rattle.rh_pictures.proofs.map.slots.count_tasks.Goals as goal
+use Rattle.rh_pictures.proofs.counts.count_tasks.Goals as goal
 
 pub overflow_add-i : goal.overflow_add-i
 overflow_add-i g c =

@@ -1,5 +1,5 @@
 use Rattle.std.proofs.Common.{◌-◌, ◌≤◌, length}
-use Rattle.rh_pictures.proofs.excerpt.count_made.Given as goal
+use Rattle.rh_pictures.proofs.counts.count_made.Given as goal
 
 -- no more than there are
 abbrev pub invariant-areas : goal.invariant-areas
