@@ -175,8 +175,12 @@ module _ {D : Type 0} {desk : D → Desk} {m n : Mapper D} {old new : List ℕ} 
     offered = offers.offered;
   }
 
-  pub took-line : (line : Text) → Offers desk m line (line_means line) n old new → Gives (TookLine desk m (kept line) n) old new
-  took-line line offers = offers-text (offers-kept line offers)
+  -- what was found of a line is what it means
+  pub took-line : (line : Text) (found : Meaning (Option Command)) → found ≡ line_means line → Offers desk m line found n old new
+      → Gives (TookLine desk m (kept line) n) old new
+  took-line line found means offers =
+      let P : Meaning (Option Command) → Type 0 = λ z. Offers desk m line z n old new in
+      offers-text (offers-kept line (subst P means offers))
 
   -- the same of what stands behind the last line feed, if that is something
   pub took-rest : (rest : Text) → false ≡ (length rest == 0) → Offers desk m rest (rest_means rest) n old new → Gives (TookRest desk m (kept rest) n) old new

@@ -3,7 +3,7 @@ use Rattle.rh_pictures.proofs.SheetCommon.{◌≡◌, ℕ, List, Bool, true, fal
 use Rattle.rh_pictures.proofs.SheetCommon.{is_err}
 use Rattle.rh_pictures.proofs.SheetCommon.{not, ◌==◌, Command, LineFault, Desk, Meaning, line_means, IsReordered, rest_means, kept, kept_means}
 use Rattle.rh_pictures.proofs.SheetCommon.{Share, IsShared, Text, Place, Read, after_read, at_desk, Walk, behind_read}
-use Rattle.rh_pictures.proofs.SheetCommon.{read_text, sheet_lines, Painter, PaintedLine, offered_as, walk_in}
+use Rattle.rh_pictures.proofs.SheetCommon.{read_text, sheet_lines, Painter, TookPaintedLine, offered_as, walk_in}
 use Rattle.std.proofs.lemmas.Bool.{eqb-true}
 use Rattle.rh_pictures.proofs.MapRunLemmas.{kept_some}
 use Rattle.rh_session.specs.Taken.{Gives}
@@ -48,13 +48,6 @@ drew-kept {desk = desk} {m = m} {n = n} {o = o} line drew =
         bad = drew.follows.bad ∙ ap (λ z. m.has_bad_line || is_err z) (sym (kept_means line));
       };
     }
-
--- the same by what was found of the line
-pub line-drew : {D : Type 0} {desk : D → Desk} {m n : Painter D} {o p : List ℕ} (line : Text) (found : Meaning (Option Command)) → found ≡ line_means line
-    → DrewLine desk m o line found n p → DrewLine desk m o (kept line) (line_means (kept line)) n p
-line-drew {desk = desk} {m = m} {n = n} {o = o} {p = p} line found means drew =
-    let P : Meaning (Option Command) → Type 0 = λ z. DrewLine desk m o line z n p in
-    drew-kept line (subst P means drew)
 
 -- ---- what stands behind the last line feed
 
@@ -111,12 +104,17 @@ module _ {D : Type 0} (desk : D → Desk) (m : Painter D) (rest : Text) (some : 
 -- ---- its text
 
 module _ {D : Type 0} {desk : D → Desk} {m n : Painter D} {o p : List ℕ} where
-  pub line-took : {line : Text} {meaning : Meaning (Option Command)} → DrewLine desk m o line meaning n p → Gives (PaintedLine desk m line meaning n) o p
-  line-took {line} {meaning} drew = record {
-    text = read_text m.marked drew.share (walk_in desk m) (line, meaning);
-    told = record { share = drew.share; shared = drew.shared; text_is = refl; follows = drew.follows };
-    offered = drew.offered;
-  }
+  -- what was found of a line is what it means
+  pub line-took : (line : Text) (found : Meaning (Option Command)) → found ≡ line_means line → DrewLine desk m o line found n p
+      → Gives (TookPaintedLine desk m (kept line) n) o p
+  line-took line found means offered =
+      let P : Meaning (Option Command) → Type 0 = λ z. DrewLine desk m o line z n p in
+      let drew = drew-kept line (subst P means offered) in
+      record {
+        text = read_text m.marked drew.share (walk_in desk m) (kept line, line_means (kept line));
+        told = record { share = drew.share; shared = drew.shared; text_is = refl; follows = drew.follows };
+        offered = drew.offered;
+      }
 
   pub rest-took : {rest : List ℕ} → DrewRest desk m o rest n p → Gives (TookPaintedRest desk m rest n) o p
   rest-took drew = record {

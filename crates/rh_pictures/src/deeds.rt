@@ -59,6 +59,17 @@ pub fn answer<D: Drawn>(drawn: &mut D, command: &Command, front: &mut Front) -> 
     (reply, count)
 }
 
+/// Does a command of a step that isn't shown. A question changes nothing.
+pub fn change<D: Drawn>(drawn: &mut D, command: &Command)
+    requires { IsTrue (in_range command.now) }
+    ensures { IsReordered (step (D.desk drawn.old) command.now).0 (D.desk drawn.new) }
+{
+    if let Command::Ask(_) = command {
+        return;
+    }
+    drawn.apply(command);
+}
+
 /// A step, with what its command did. All its parts are lent for as long as it is used.
 pub fn step_of<'a, S: Sight>(
     sight: &'a S,

@@ -3,9 +3,7 @@
 ghost use Rattle.std.specs.Prelude.{◌≡◌, ◌<◌, ◌≤◌, ◌+◌, ◌++◌, ◌^◌, ◌||◌, ◌&&◌, not, ℕ, List, length, None, Some, Ok};
 ghost use Rattle.std.specs.Prelude.{Err, IsTrue, false};
 ghost use Rattle.std.specs.Option.{option_map};
-ghost use Rattle.rh_defs.specs.Order.{IsReordered};
 ghost use Rattle.rh_defs.specs.Range.{in_range};
-ghost use Rattle.rh_defs.specs.Commands.{step};
 ghost use Rattle.rh_defs.specs.Line.{line_means};
 ghost use Rattle.rh_pictures.specs.DrawnPlaces.{IsFirst};
 ghost use Rattle.rh_pictures.specs.Inner.StepsShown.{IsSamePlace, Offers, lines_of_step};
@@ -16,7 +14,7 @@ ghost use Rattle.rh_map.specs.Written.{shown_lines};
 ghost use Rattle.rh_session.specs.Outcome.{status_of};
 ghost use Rattle.rh_scene.specs.SightPages.{share_in};
 
-use crate::deeds::{Above, Deed, and_not, answer, is_wanted, rest_fault, step_of};
+use crate::deeds::{Above, Deed, and_not, answer, change, is_wanted, rest_fault, step_of};
 use crate::drawn::Drawn;
 use crate::excerpt::excerpt_fault;
 use crate::lists::Lists;
@@ -61,21 +59,6 @@ impl<D: Drawn> Mapper<D> {
         }
     }
 
-    /// Does what a line asks for, and shows it where it is to be shown.
-    fn take<P: Pen>(&mut self, line: &[u8], pen: &mut P)
-        requires { self.old.steps + 1 < 2 ^ 32 }
-        ensures told { Offers D.desk self.old line.now (line_means line.now) self.new (P.offered pen.old)
-            (P.offered pen.new) }
-        ensures few { self.new.steps ≤ self.old.steps + 1 }
-    {
-        let mut command = Command::Ask(Question::Areas);
-        match read_line(line, &mut command) {
-            Ok(false) => self.skip(line, pen),
-            Ok(true) => self.carry_out(line, &command, pen),
-            Err(fault) => self.refuse(line, &fault, pen),
-        }
-    }
-
     /// Shows a line that asks for nothing, and notes whether it marks the next command.
     fn skip<P: Pen>(&mut self, line: &[u8], pen: &mut P)
         ensures told { Offers D.desk self.old line.now (Ok None) self.new (P.offered pen.old) (P.offered pen.new) }
@@ -99,7 +82,7 @@ impl<D: Drawn> Mapper<D> {
     {
         let wanted = self.begin_step();
         if and_not(self.marked, wanted) {
-            self.change(command);
+            change(&mut self.drawn, command);
             self.drawn.recall_desk();
             return;
         }
@@ -156,18 +139,6 @@ impl<D: Drawn> Mapper<D> {
         wanted
     }
 
-    /// Does a command of a step that isn't shown. A question changes nothing.
-    fn change(&mut self, command: &Command)
-        requires { IsTrue (in_range command.now) }
-        ensures desk { IsReordered (step (D.desk self.old.drawn) command.now).0 (D.desk self.new.drawn) }
-        ensures rest { self.new ≡ record self.old { drawn = self.new.drawn } }
-    {
-        if let Command::Ask(_) = command {
-            return;
-        }
-        self.drawn.apply(command);
-    }
-
     /// Writes a step, of which the reply's front stands in its place.
     fn show<P: Pen>(&mut self, line: &[u8], deed: Deed<'_>, pen: &mut P)
         ensures text { (text : List ℕ) → Excerpts (front_of self.old.front) deed.entry.count text
@@ -220,7 +191,12 @@ impl<D: Drawn> LineTaker for Mapper<D> {
     ghost room = { λ m. 2 ^ 32 - 1 - m.steps };
 
     fn take_line<P: Pen>(&mut self, line: &[u8], pen: &mut P) {
-        self.take(line, pen);
+        let mut command = Command::Ask(Question::Areas);
+        match read_line(line, &mut command) {
+            Ok(false) => self.skip(line, pen),
+            Ok(true) => self.carry_out(line, &command, pen),
+            Err(fault) => self.refuse(line, &fault, pen),
+        }
     }
 
     fn take_rest<P: Pen>(&mut self, rest: &[u8], pen: &mut P) {

@@ -5,9 +5,7 @@ ghost use Rattle.std.specs.Prelude.{Err, IsTrue, Ok, false, length, true};
 ghost use Rattle.std.specs.Bool.{OnTrue};
 ghost use Rattle.std.specs.Option.{option_map};
 ghost use Rattle.rh_defs.specs.Line.{line_means, words_of};
-ghost use Rattle.rh_defs.specs.Order.{IsReordered};
 ghost use Rattle.rh_defs.specs.Range.{in_range};
-ghost use Rattle.rh_defs.specs.Commands.{step};
 ghost use Rattle.rh_defs.specs.declared.sizes.TheConstants.{MAX_PAGES};
 ghost use Rattle.rh_pictures.specs.DrawnReplies.{Excerpts};
 ghost use Rattle.rh_session.specs.Lines.{kept};
@@ -27,7 +25,7 @@ ghost use Rattle.rh_scene.specs.SightMessages.{message_items};
 ghost use Rattle.rh_scene.specs.SightPages.{share_in};
 ghost use Rattle.rh_scene.specs.Steps.{IsSender};
 
-use crate::deeds::{Above, Deed, and_not, answer, is_wanted, rest_fault, step_of};
+use crate::deeds::{Above, Deed, and_not, answer, change, is_wanted, rest_fault, step_of};
 use crate::drawn::Drawn;
 use crate::excerpt::excerpt_fault;
 use crate::lists::Lists;
@@ -156,20 +154,8 @@ impl<D: Drawn> Painter<D> {
         ensures steps { self.new.progress.steps ≡ self.old.progress.steps + 1 }
     {
         let sender = StepSender::new(&self.drawn, Some(command));
-        self.change(command);
+        change(&mut self.drawn, command);
         self.leave_out(sender);
-    }
-
-    /// Does a command of a step that isn't shown. A question changes nothing.
-    fn change(&mut self, command: &Command)
-        requires { IsTrue (in_range command.now) }
-        ensures desk { IsReordered (step (D.desk self.old.drawn) command.now).0 (D.desk self.new.drawn) }
-        ensures rest { self.new ≡ record self.old { drawn = self.new.drawn } }
-    {
-        if let Command::Ask(_) = command {
-            return;
-        }
-        self.drawn.apply(command);
     }
 
     /// Leaves a step out, and notes what has become of the last messages at it.
@@ -308,35 +294,6 @@ impl<D: Drawn> Painter<D> {
         print_foot(self.progress.begun(), self.progress.left(), pen);
     }
 
-    /// Shows a whole line, and does what it asks for.
-    fn paint_line<P: Pen>(&mut self, line: &[u8], pen: &mut P)
-        requires { self.old.progress.steps + 1 < 2 ^ 32 }
-        ensures drew { DrewLine D.desk self.old (P.offered pen.old) (kept line.now) (line_means (kept line.now))
-            self.new (P.offered pen.new) }
-        ensures steps { self.new.progress.steps ≤ self.old.progress.steps + 1 }
-    {
-        let mut command = Command::Ask(Question::Areas);
-        match read_line(line, &mut command) {
-            Ok(false) => self.skip(line, pen),
-            Ok(true) => self.carry_out(line, &command, pen),
-            Err(fault) => self.refuse(line, &fault, pen),
-        }
-    }
-
-    /// Shows what stands behind the last line feed, if something does, and writes the end of the sheet.
-    fn paint_rest<P: Pen>(&mut self, rest: &[u8], pen: &mut P)
-        requires { self.old.progress.steps + 1 < 2 ^ 32 }
-        ensures { DrewRest D.desk self.old (P.offered pen.old) (kept rest.now) self.new (P.offered pen.new) }
-    {
-        if rest.is_empty() {
-            self.end(pen);
-            return;
-        }
-        let fault = rest_fault(rest);
-        self.refuse(rest, &fault, pen);
-        self.end(pen);
-    }
-
     /// How the sheet went so far.
     pub fn status(&self) -> Status
         ensures { result ≡ status_of self.now.has_bad_line }
@@ -360,11 +317,22 @@ impl<D: Drawn> LineTaker for Painter<D> {
     ghost room = { λ m. 2 ^ 32 - 1 - m.progress.steps };
 
     fn take_line<P: Pen>(&mut self, line: &[u8], pen: &mut P) {
-        self.paint_line(line, pen);
+        let mut command = Command::Ask(Question::Areas);
+        match read_line(line, &mut command) {
+            Ok(false) => self.skip(line, pen),
+            Ok(true) => self.carry_out(line, &command, pen),
+            Err(fault) => self.refuse(line, &fault, pen),
+        }
     }
 
     fn take_rest<P: Pen>(&mut self, rest: &[u8], pen: &mut P) {
-        self.paint_rest(rest, pen);
+        if rest.is_empty() {
+            self.end(pen);
+            return;
+        }
+        let fault = rest_fault(rest);
+        self.refuse(rest, &fault, pen);
+        self.end(pen);
     }
 }
 

@@ -8,11 +8,10 @@ pub returns-then-and_not-clause-told : goal.returns-then-and_not-clause-told
 returns-then-and_not-clause-told g c =
     let desk = g.D.Sight.desk in
     let b = c.begin_step-wanted.new.self in
-    let e = c.change.ensures.rest in
     hidden-command desk c.args.self.now b c.args.line.now (g.P.Pen.offered c.args.pen.now) c.begin_step-wanted.result c.begin_step-wanted.ensures.wanted
     c.begin_step-wanted.ensures.next
-    c.args.command.now _ _ (sym c.and_not.ensures ∙ c.if-and_not.true) c.change.ensures.desk
-    (rest-as {b = b} (record b { drawn = c.change.new.self.drawn }) e) (is_shared (desk c.change.new.self.drawn) c.recall_desk.ensures)
+    c.args.command.now _ _ (sym c.and_not.ensures ∙ c.if-and_not.true) c.change.ensures
+    (rest-as {b = b} (record b { drawn = c.change.new.drawn }) refl) (is_shared (desk c.change.new.drawn) c.recall_desk.ensures)
 
 pub returns : goal.returns
 returns g c =

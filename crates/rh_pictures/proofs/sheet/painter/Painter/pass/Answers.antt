@@ -1,4 +1,4 @@
-use Rattle.rh_pictures.proofs.SheetCommon.{ap, refl, Some, step, reply_to}
+use Rattle.rh_pictures.proofs.SheetCommon.{refl, Some, step, reply_to}
 use Rattle.rh_pictures.proofs.SheetStepLemmas.{took-command}
 use Rattle.rh_pictures.proofs.sheet.painter.Painter.pass.Goals as goal
 
@@ -6,13 +6,9 @@ pub returns-clause-left : goal.returns-clause-left
 returns-clause-left g c = λ o line.
     let desk = g.D.Sight.desk in
     let m = c.args.self.now in
-    let b = c.change.new.self in
+    let b = record m { drawn = c.change.new.drawn } in
     let command = c.args.command.now in
     let reply = (step (desk m.drawn) command).1 in
-    took-command desk m b c.leave_out.new.self o o line (record {
-      marked = ap (λ z. z.marked) c.change.ensures.rest;
-      progress = ap (λ z. z.progress) c.change.ensures.rest;
-      notes = ap (λ z. z.notes.items) c.change.ensures.rest;
-    }) command reply _
-    c.change.ensures.desk (record { still = refl; marks = λ after kept. refl }) refl (ap (λ z. z.has_bad_line) c.change.ensures.rest)
+    took-command desk m b c.leave_out.new.self o o line (record { marked = refl; progress = refl; notes = refl }) command reply _
+    c.change.ensures (record { still = refl; marks = λ after kept. refl }) refl refl
     (c.leave_out.ensures.left _ c.new-sender.ensures o line (Some command) reply (reply_to (desk m.drawn) command))
