@@ -1,5 +1,5 @@
 -- Owners of pages, and the pages that they have.
-use Rattle.rh_pictures.proofs.Common.{◌≡◌, ℕ, zero, suc, ◌+◌, ◌<◌, ◌≤◌, true, arith, refl, ap, sym, subst, ◌∙◌, List, [], ◌∷◌, length, drop}
+use Rattle.rh_pictures.proofs.Common.{◌≡◌, ℕ, zero, suc, ◌+◌, ◌<◌, ◌≤◌, false, true, arith, refl, ap, sym, subst, ◌∙◌, List, [], ◌∷◌, length, drop}
 use Rattle.rh_pictures.proofs.Common.{Some, IfSome, slice_get, slice_index, if◌then◌else◌, ◌==◌, nat_lt, enumerate_from, option_map, nat_tests}
 use Rattle.rh_pictures.proofs.Common.{drop_more, Desk, Made, Task, module_pages, task_pages, IsDesk, Rise, taken_line, Scene, AreaOf}
 use Rattle.rh_pictures.proofs.Common.{IsShared, Owner, SlotOf, Text, append-nil, at-some, count_of, flat_map, share_in}
@@ -70,3 +70,10 @@ takes-one element x o n low =
     let on : nat_lt (count_of o x.before.holdings) n ≡ true = grind (arith, nat_tests) in
     let line = taken_line (owner_name x.desk o) (taken_pages x (o, n)) in
     ap (λ b. flat_map element (if b then line ∷ [] else [])) on ∙ append-nil (element line)
+
+-- nothing
+pub takes-none : (element : Text → List ℕ) (x : Scene) (o : Owner) (n : ℕ) → n ≤ count_of o x.before.holdings → flat_map element (takes_text x (o, n)) ≡ []
+takes-none element x o n high =
+    let off : nat_lt (count_of o x.before.holdings) n ≡ false = grind (arith, nat_tests) in
+    let line = taken_line (owner_name x.desk o) (taken_pages x (o, n)) in
+    ap (λ b. flat_map element (if b then line ∷ [] else [])) off

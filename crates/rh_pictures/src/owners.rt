@@ -1,6 +1,7 @@
 //! The owners of pages, one after the other.
 
 ghost use Rattle.std.specs.Prelude.{◌≡◌, ◌≤◌, ◌<◌, ◌+◌, ◌++◌, IfNone, IfSome, length, slice_get, None};
+ghost use Rattle.rh_defs.specs.Desk.{most_made};
 ghost use Rattle.rh_defs.specs.declared.sizes.TheConstants.{FIXED_AREAS, MAX_AREAS, MAX_PAGES};
 ghost use Rattle.rh_figure.specs.Changes.{taken_line};
 ghost use Rattle.rh_figure.specs.Share.{holdings};
@@ -10,7 +11,6 @@ ghost use Rattle.rh_sheet.specs.Owners.{area_tag as tag_of_area, slot_tag as tag
 ghost use Rattle.rh_sheet.specs.declared.sizes.TheConstants.{TAG_LETTERS};
 ghost use Rattle.rh_scene.specs.SightOwners.{shared_owner};
 
-use crate::counts::count_made;
 use rh_defs::sizes::{FIXED_AREAS, MODULE_AREA};
 use rh_defs::{Handle, Name};
 use rh_elements::Tint;
@@ -35,14 +35,15 @@ pub struct OwnerSight<'a> {
 }
 
 /// The owner at a place among all: areas 0 to 5, the made ones in order of number, and the slots in order of handle;
-/// None past the last.
-pub fn owner_at<S: Sight>(sight: &S, k: usize) -> Option<OwnerSight<'_>>
+/// None past the last. So many areas were made.
+pub fn owner_at<S: Sight>(sight: &S, made: usize, k: usize) -> Option<OwnerSight<'_>>
+    requires made { made ≡ length (S.desk sight.now).made }
+    requires few { made ≤ most_made }
     ensures some { IfSome result (λ o. IsOwnerSeen (S.desk sight.now) k o) }
     ensures none { IfNone result (slice_get (holdings (S.desk sight.now)) k ≡ None) }
     ensures few { length (holdings (S.desk sight.now)) ≤ MAX_AREAS }
 {
     sight.recall_desk();
-    let made = count_made(sight);
     if k < FIXED_AREAS {
         Some(fixed_owner(sight, k))
     } else if k < FIXED_AREAS + made {

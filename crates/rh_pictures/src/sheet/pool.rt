@@ -12,6 +12,7 @@ ghost use Rattle.rh_sheet.specs.Pool.{freed_squares, owner_classes, owner_senten
 ghost use Rattle.rh_sheet.specs.Pool.{pool_description, pool_figure, pool_height as height_of_pool, tags_text};
 ghost use Rattle.rh_scene.specs.Steps.{IsStepOf, scene_at};
 
+use crate::counts::count_made;
 use crate::owners::{Named, OwnerSight, owner_at, takes_told};
 use crate::walks::page_changes::freed_of;
 use rh_elements::{
@@ -54,8 +55,9 @@ fn print_description<S: Sight, P: Pen>(sight: &S, step: &Step<'_>, pen: &mut P)
         ++ escape (pool_description (scene_at (S.desk sight.now) step.now)) }
 {
     sight.recall_desk();
+    let made = count_made(sight);
     let mut k = 0;
-    'owners: while let Some(owner) = owner_at(sight, k) {
+    'owners: while let Some(owner) = owner_at(sight, made, k) {
         print_sentence(sight, step, &owner, pen);
         k += 1;
     }
@@ -116,8 +118,9 @@ fn print_all_squares<S: Sight, P: Pen>(sight: &S, step: &Step<'_>, pen: &mut P)
     ensures { let x = scene_at (S.desk sight.now) step.now in
         P.offered pen.new ≡ P.offered pen.old ++ flat_map (owner_squares x) (holdings (S.desk sight.now)) }
 {
+    let made = count_made(sight);
     let mut k = 0;
-    'owners: while let Some(owner) = owner_at(sight, k) {
+    'owners: while let Some(owner) = owner_at(sight, made, k) {
         print_owner_squares(sight, step, &owner, pen);
         k += 1;
     }
@@ -184,8 +187,9 @@ fn print_all_tags<S: Sight, P: Pen>(sight: &S, step: &Step<'_>, pen: &mut P)
     ensures { let x = scene_at (S.desk sight.now) step.now in
         P.offered pen.new ≡ P.offered pen.old ++ flat_map (tags_text x) (holdings (S.desk sight.now)) }
 {
+    let made = count_made(sight);
     let mut k = 0;
-    'owners: while let Some(owner) = owner_at(sight, k) {
+    'owners: while let Some(owner) = owner_at(sight, made, k) {
         let pages = pages_of(sight, step.pages, owner.place);
         print_tags(owner.named.tag().as_slice(), pages, pen);
         k += 1;
