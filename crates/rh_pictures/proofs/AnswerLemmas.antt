@@ -1,9 +1,9 @@
 -- Answers as they are kept: how many lines each has, and what the first 4,096 bytes show of them.
 use Rattle.rh_pictures.proofs.Common.{◌≡◌, ℕ, zero, suc, ◌+◌, ◌*◌, ◌/◌, ◌%◌, ◌<◌, ◌≤◌, ◌⊎◌, inl, inr, Bool, true, false, eqb, refl, ap, ap₂, sym, subst, ◌∙◌}
-use Rattle.rh_pictures.proofs.Common.{arith, rules, List, [], ◌∷◌, ◌++◌, append-nil, append_assoc, length, take, map, Option, Some, None, Ok, Err, codes}
-use Rattle.rh_pictures.proofs.Common.{find, if◌then◌else◌, max, nat_le, slice_get, slice_index, ◌==◌, decimal, AllByRecursion, enumerate_from, flat_map}
-use Rattle.rh_pictures.proofs.Common.{flat_map-append, length-append, BlockItem, Desk, Made, Task, task_pages, block_items, in_item}
-use Rattle.rh_pictures.proofs.Common.{out_item, asked, ended, unended, answer_text, first_line, cut, Excerpts}
+use Rattle.rh_pictures.proofs.Common.{arith, rules, List, [], ◌∷◌, ◌++◌, append-nil, append_assoc, length, take, map, Option, Some, None, Ok, Err, codes, find}
+use Rattle.rh_pictures.proofs.Common.{if◌then◌else◌, max, nat_le, slice_get, slice_index, ◌==◌, decimal, AllByRecursion, enumerate_from, flat_map}
+use Rattle.rh_pictures.proofs.Common.{flat_map-append, length-append, BlockItem, Desk, Made, Task, task_pages, block_items, in_item, out_item, asked, ended}
+use Rattle.rh_pictures.proofs.Common.{unended, answer_text, first_line, cut, Excerpts, heap_seen, option_map}
 use Rattle.std.specs.Fmt.{digit_glyph, digits, digits_onto}
 use Rattle.std.proofs.lemmas.List.FromFn.{length-enumerate_from}
 use borrow.Author.Tests.{tests}
@@ -50,7 +50,6 @@ use Rattle.rh_scene.specs.declared.sight.HeapOf.TheVariants as heap_of
 use Rattle.rh_scene.specs.Walks.{ComesToRest}
 use Rattle.rh_scene.proofs.Heaps.{room, seen, sized-many, task-slot}
 use Rattle.rh_scene.proofs.SlotPieces.{few-blocks}
-use Rattle.rh_pictures.proofs.Common.{heap_seen, option_map}
 use Rattle.rh_pictures.proofs.ExcerptLemmas.{Kept, kept}
 
 -- ---- short lines

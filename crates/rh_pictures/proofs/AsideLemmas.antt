@@ -1,7 +1,6 @@
 -- What stands beside the memory, part by part.
-use Rattle.rh_pictures.proofs.SheetCommon.{◌≡◌, ℕ, true, List, [], ◌∷◌, ◌++◌, ap, sym, ◌∙◌, codes, concat, Desk, with_queue, letterboxes, transfers, Text}
-use Rattle.rh_pictures.proofs.SheetCommon.{where_so}
-use Rattle.rh_pictures.proofs.SheetCommon.{Scene, Note, arrows, messages_table, transfers_table}
+use Rattle.rh_pictures.proofs.Common.{◌≡◌, ℕ, true, List, [], ◌∷◌, ◌++◌, ap, sym, ◌∙◌, codes, concat, Desk, with_queue, letterboxes, transfers, Text, where_so}
+use Rattle.rh_pictures.proofs.Common.{Scene, Note, arrows, messages_table, transfers_table}
 use Rattle.rh_sheet.specs.Chart.{chart_figure, chart_of}
 use Rattle.rh_sheet.specs.SheetSteps.{aside_text, has_aside}
 use Rattle.rh_pictures.proofs.ChartLemmas.{chart-seen}

@@ -1,7 +1,6 @@
 -- What is written of cards, one after the other.
-use Rattle.rh_pictures.proofs.SheetCommon.{◌≡◌, ℕ, ◌+◌, Bool, refl, ap, ap₂, sym, ◌∙◌, List, [], ◌∷◌, ◌++◌}
-use Rattle.rh_pictures.proofs.SheetCommon.{codes, nat_lt, flat_map, flat_map-append, Text, where_so, escape}
-use Rattle.rh_pictures.proofs.SheetCommon.{escaped_byte, band_text_from}
+use Rattle.rh_pictures.proofs.Common.{◌≡◌, ℕ, ◌+◌, Bool, refl, ap, ap₂, sym, ◌∙◌, List, [], ◌∷◌, ◌++◌, codes, nat_lt, flat_map, flat_map-append, Text, where_so}
+use Rattle.rh_pictures.proofs.Common.{escape, escaped_byte, band_text_from}
 use Rattle.hex.specs.Hex.{encode_lower}
 use Rattle.rh_figure.specs.Cards.{Card, CardKind}
 use Rattle.rh_figure.specs.Phrases.{bytes_text}

@@ -1,9 +1,9 @@
 -- Bands of cards: which cards of a list are shown.
 use Rattle.rh_pictures.proofs.Common.{◌≡◌, ◌⊎◌, inl, inr, add-one, append-nil, append_assoc, ℕ, zero, suc, ◌+◌, ◌-◌, ◌<◌, ◌≤◌, Bool, true, false, refl, ap, sym}
 use Rattle.rh_pictures.proofs.Common.{subst, ◌∙◌, arith, List, [], ◌∷◌, ◌++◌, length, take, drop, get_or, Some, None, min, filter, if◌then◌else◌, nat_le}
-use Rattle.rh_pictures.proofs.Common.{slice_get, nat_tests, drop_all, drop_more, take_all, slice_get-get_or, slice_get_within, BlockItem, Task}
-use Rattle.rh_pictures.proofs.Common.{block_items, flex_start, Card, flex_cards, more_card, shown_cards, card_line, is_fresh_flex, Scene, card_lines}
-use Rattle.rh_pictures.proofs.Common.{cards_behind, codes, count_shown, length-take, place_behind, rest-some, shown_lines}
+use Rattle.rh_pictures.proofs.Common.{slice_get, nat_tests, drop_all, drop_more, take_all, slice_get-get_or, slice_get_within, BlockItem, Task, block_items}
+use Rattle.rh_pictures.proofs.Common.{flex_start, Card, flex_cards, more_card, shown_cards, card_line, is_fresh_flex, Scene, card_lines, cards_behind, codes}
+use Rattle.rh_pictures.proofs.Common.{count_shown, length-take, place_behind, rest-some, shown_lines}
 use Rattle.rh_defs.specs.Questions.{block_items_from}
 use Rattle.rh_defs.specs.Slot.{Flex, weight}
 use Rattle.rh_figure.specs.Cards.{flex_card, flex_cards_from, use_of_block}

@@ -1,9 +1,7 @@
 -- The text of a chart, part by part.
-use Rattle.rh_pictures.proofs.SheetCommon.{◌≡◌, ℕ, ◌+◌, ◌<◌, true, false, refl, ap₂, ◌∙◌, arith, append_assoc, append-nil, List, [], ◌∷◌, ◌++◌, length, ◌==◌}
-use Rattle.rh_pictures.proofs.SheetCommon.{codes}
-use Rattle.rh_pictures.proofs.SheetCommon.{concat, flat_map, Desk, with_queue, Text, Note}
-use Rattle.rh_pictures.proofs.SheetCommon.{arrow_sentence, arrows, steps_in, tasks_in, escape, figure_open, MessageArrow}
-use Rattle.rh_pictures.proofs.SheetCommon.{arrow_of, arrows_seen}
+use Rattle.rh_pictures.proofs.Common.{◌≡◌, ℕ, ◌+◌, ◌<◌, true, false, refl, ap₂, ◌∙◌, arith, append_assoc, append-nil, List, [], ◌∷◌, ◌++◌, length, ◌==◌, codes}
+use Rattle.rh_pictures.proofs.Common.{concat, flat_map, Desk, with_queue, Text, Note, arrow_sentence, arrows, steps_in, tasks_in, escape, figure_open}
+use Rattle.rh_pictures.proofs.Common.{MessageArrow, arrow_of, arrows_seen}
 use Rattle.rh_sheet.specs.declared.sizes.TheConstants.{CHART_EDGE, CHART_WIDTH}
 use Rattle.rh_sheet.specs.Chart.{Arrow, chart_body, chart_foot, chart_of}
 use Rattle.rh_pictures.proofs.UnderLemmas.{is_some, some-more}

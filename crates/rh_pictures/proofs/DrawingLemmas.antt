@@ -1,8 +1,7 @@
 -- The rows of an area, and the letter of a slot.
 use Rattle.rh_pictures.proofs.Common.{◌≡◌, ℕ, zero, suc, ◌+◌, ◌<◌, ◌≤◌, Bool, true, false, refl, ap, subst, ◌∙◌, arith, eq-eqb, List, [], ◌∷◌, length, map}
-use Rattle.rh_pictures.proofs.Common.{Some}
-use Rattle.rh_pictures.proofs.Common.{None, ◌==◌, find, if◌then◌else◌, nat_lt, slice_get, position, ne_eqb, nat_tests, slice_get_within, Desk, Task, task_at}
-use Rattle.rh_pictures.proofs.Common.{IsDesk, Rise, Card, Panel, slot_panel, area_rows, Scene, SlotOf}
+use Rattle.rh_pictures.proofs.Common.{Some, None, ◌==◌, find, if◌then◌else◌, nat_lt, slice_get, position, ne_eqb, nat_tests, slice_get_within, Desk, Task}
+use Rattle.rh_pictures.proofs.Common.{task_at, IsDesk, Rise, Card, Panel, slot_panel, area_rows, Scene, SlotOf}
 use Rattle.std.specs.List.{position_or_len}
 use Rattle.std.proofs.lemmas.List.{length-map}
 use Rattle.rh_figure.specs.declared.piece.Piece.{Piece}

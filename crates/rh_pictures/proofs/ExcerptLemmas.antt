@@ -1,8 +1,8 @@
 -- Replies as they are kept: how many lines they have, and what their front shows.
 use Rattle.rh_pictures.proofs.Common.{◌≡◌, ℕ, zero, suc, ◌+◌, ◌/◌, ◌%◌, ◌<◌, ◌≤◌, Bool, true, false, eqb, refl, ap, ap₂, sym, subst, ◌∙◌, arith, List, [], ◌∷◌}
-use Rattle.rh_pictures.proofs.Common.{◌++◌, append-nil, append_assoc, length, take, drop, codes, if◌then◌else◌, nat_le, nat_lt}
-use Rattle.rh_pictures.proofs.Common.{◌==◌, decimal, AllByRecursion, ne_eqb, nat_tests, length-append, length-drop, LineFault, TooLong}
-use Rattle.rh_pictures.proofs.Common.{Reply, Nothing, ended, unended, fault_text, first_line, cut, Excerpts}
+use Rattle.rh_pictures.proofs.Common.{◌++◌, append-nil, append_assoc, length, take, drop, codes, if◌then◌else◌, nat_le, nat_lt, ◌==◌, decimal, AllByRecursion}
+use Rattle.rh_pictures.proofs.Common.{ne_eqb, nat_tests, length-append, length-drop, LineFault, TooLong, Reply, Nothing, ended, unended, fault_text, first_line}
+use Rattle.rh_pictures.proofs.Common.{cut, Excerpts}
 use Rattle.std.specs.Fmt.{digit_glyph, digits, digits_onto}
 use Rattle.rh_defs.specs.declared.fault.LineFault.TheVariants.{Unended, Unknown, Count, Word}
 use Rattle.rh_defs.specs.declared.message.Action.{Action}

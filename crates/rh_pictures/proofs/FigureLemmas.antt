@@ -1,6 +1,6 @@
 -- The parts of a figure, one after the other.
-use Rattle.rh_pictures.proofs.Common.{◌≡◌, ap, ◌∙◌, List, [], ◌∷◌, ◌++◌, map, append_assoc, codes, range_with_len, Panel, figure, owner_of, slot_panel}
-use Rattle.rh_pictures.proofs.Common.{Text, page_mark, Scene, area_part, flat_map, panel_part, shown_lines, slot_panels, lines_of_slots, sym}
+use Rattle.rh_pictures.proofs.Common.{◌≡◌, ap, ◌∙◌, List, [], ◌∷◌, ◌++◌, map, append_assoc, codes, range_with_len, Panel, figure, owner_of, slot_panel, Text}
+use Rattle.rh_pictures.proofs.Common.{page_mark, Scene, area_part, flat_map, panel_part, shown_lines, slot_panels, lines_of_slots, sym}
 use Rattle.std.proofs.lemmas.List.FromFn.{length-map-range_with_len}
 use Rattle.std.proofs.lemmas.List.Folds.{flat_map-map}
 use Rattle.rh_defs.specs.Desk.{free_pages}

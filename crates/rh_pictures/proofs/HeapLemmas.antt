@@ -3,8 +3,7 @@ use Rattle.rh_pictures.proofs.Common.{◌≡◌, ℕ, zero, suc, ◌+◌, ◌-�
 use Rattle.rh_pictures.proofs.Common.{◌++◌, length, take, drop, get_or, Option, Some, None, IfSome, ◌&&◌, ◌||◌, ◌==◌, filter, find, if◌then◌else◌, nat_le}
 use Rattle.rh_pictures.proofs.Common.{slice_get, AllByRecursion, flat_map, list_any, option_map, eqb-true, nat_tests, drop_all, take_all, slice_get-get_or}
 use Rattle.rh_pictures.proofs.Common.{slice_get_within, Desk, Task, Heap, IsDesk, Parcel, Card, Scene, message_of_scene, MessageItem, held_on, waiting_on}
-use Rattle.rh_pictures.proofs.Common.{SeesBlock}
-use Rattle.rh_pictures.proofs.Common.{heap_seen, heap_start_of, band_cards, is_fresh_card, with_items}
+use Rattle.rh_pictures.proofs.Common.{SeesBlock, heap_seen, heap_start_of, band_cards, is_fresh_card, with_items}
 use Rattle.rh_defs.specs.declared.sizes.TheConstants.{SEGMENTS_AT_ONCE}
 use Rattle.rh_defs.specs.declared.question.SegmentItem.{SegmentItem}
 use Rattle.rh_defs.specs.declared.question.SegmentItem.TheVariants as segment

@@ -1,7 +1,6 @@
 -- What leads to cards, by its places; the arrow of a slide, by the task that slid.
-use Rattle.rh_pictures.proofs.SheetCommon.{◌≡◌, ℕ, Bool, true, false, refl, ap, sym, ◌∙◌, Some, ◌==◌, flat_map, Task, task_at, BlockItem, block_items}
-use Rattle.rh_pictures.proofs.SheetCommon.{item_with_anchor}
-use Rattle.rh_pictures.proofs.SheetCommon.{slide_of, slides, where_so, Scene, lens_below, Frame}
+use Rattle.rh_pictures.proofs.Common.{◌≡◌, ℕ, Bool, true, false, refl, ap, sym, ◌∙◌, Some, ◌==◌, flat_map, Task, task_at, BlockItem, block_items}
+use Rattle.rh_pictures.proofs.Common.{item_with_anchor, slide_of, slides, where_so, Scene, lens_below, Frame}
 use Rattle.std.proofs.lemmas.Bool.{eqb-true}
 use Rattle.rh_figure.specs.Changes.{blocks_now}
 use Rattle.rh_sheet.specs.SheetAreas.{lens_above}

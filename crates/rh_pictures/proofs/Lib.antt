@@ -37,4 +37,3 @@ mod AsideLemmas
 mod SheetStepLemmas
 mod TakeLemmas
 mod PrintLemmas
-pub mod SheetCommon

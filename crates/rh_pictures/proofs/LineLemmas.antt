@@ -1,9 +1,8 @@
 -- A line as far as it is kept: what a sheet has of it, and where it leads.
-use Rattle.rh_pictures.proofs.SheetCommon.{◌≡◌, ℕ, ◌+◌, ◌<◌, ◌≤◌, ◌⊎◌, inl, inr, Bool, true, false, List, [], ◌∷◌, ◌++◌, length, take, map, zero, suc, refl}
-use Rattle.rh_pictures.proofs.SheetCommon.{sym}
-use Rattle.rh_pictures.proofs.SheetCommon.{ap, ◌∙◌, arith, Option, codes, nat_le, if◌then◌else◌, Err, ◌&&◌, not, concat, decimal, length-take, Command, Meaning}
-use Rattle.rh_pictures.proofs.SheetCommon.{line_means, rest_means, kept, kept_means, Share, Text, where_so, changes, Scene, noted, Note, escape, changes_text}
-use Rattle.rh_pictures.proofs.SheetCommon.{figure_text, said_end, step_end, step_text, Happened, Walk, behind_read, fault_happened, happened_text, read_text}
+use Rattle.rh_pictures.proofs.Common.{◌≡◌, ℕ, ◌+◌, ◌<◌, ◌≤◌, ◌⊎◌, inl, inr, Bool, true, false, List, [], ◌∷◌, ◌++◌, length, take, map, zero, suc, refl, sym, ap}
+use Rattle.rh_pictures.proofs.Common.{◌∙◌, arith, Option, codes, nat_le, if◌then◌else◌, Err, ◌&&◌, not, concat, decimal, length-take, Command, Meaning}
+use Rattle.rh_pictures.proofs.Common.{line_means, rest_means, kept, kept_means, Share, Text, where_so, changes, Scene, noted, Note, escape, changes_text}
+use Rattle.rh_pictures.proofs.Common.{figure_text, said_end, step_end, step_text, Happened, Walk, behind_read, fault_happened, happened_text, read_text}
 use Rattle.rh_defs.specs.declared.fault.LineFault.TheVariants.{TooLong, Unended}
 use Rattle.rh_defs.proofs.HeapLists.{cond_false, leb_no}
 use Rattle.rh_session.proofs.LineLemmas.{is_above, kept_short, split_at}

@@ -1,8 +1,8 @@
 -- A map from the lines that were taken, one after the other.
 use Rattle.rh_pictures.proofs.Common.{◌≡◌, ℕ, ◌+◌, Bool, true, false, ◌||◌, List, [], ◌∷◌, ◌++◌, map, refl, sym, ap, ap₂, ◌∙◌, subst, append-nil, Option, Some}
-use Rattle.rh_pictures.proofs.Common.{None, Ok, Err, is_err, list_any, flat_map-append, Command, Meaning, line_means, Desk, IsReordered}
-use Rattle.rh_pictures.proofs.Common.{kept, kept_means, Share, IsShared, Text, Place, after_read, is_mark, lines_of_read, read_line}
-use Rattle.rh_pictures.proofs.Common.{written_lines, Mapper, Drew, TookLine, place_in}
+use Rattle.rh_pictures.proofs.Common.{None, Ok, Err, is_err, list_any, flat_map-append, Command, Meaning, line_means, Desk, IsReordered, kept, kept_means}
+use Rattle.rh_pictures.proofs.Common.{Share, IsShared, Text, Place, after_read, is_mark, lines_of_read, read_line, written_lines, Mapper, Drew, TookLine}
+use Rattle.rh_pictures.proofs.Common.{place_in}
 use Rattle.rh_defs.specs.Script.{is_bad}
 use Rattle.rh_defs.specs.Order.{with_queue}
 use Rattle.rh_defs.proofs.Steps.{order-ignored}

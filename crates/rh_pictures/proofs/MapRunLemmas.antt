@@ -1,9 +1,8 @@
 -- A whole map, from the lines that were taken.
 use Rattle.rh_pictures.proofs.Common.{◌≡◌, ◌⊎◌, inl, inr, ℕ, ◌<◌, ◌≤◌, Bool, true, false, ◌||◌, List, [], ◌∷◌, ◌++◌, length, map, take, refl, sym, ap, ap₂, ◌∙◌}
-use Rattle.rh_pictures.proofs.Common.{subst, append-nil, append_assoc, arith, ◌+◌, Option, Err, is_err, if◌then◌else◌, nat_lt, not, ◌==◌, list_any}
-use Rattle.rh_pictures.proofs.Common.{ne_eqb, length-take, map-append, Command, TooLong, Meaning, Desk, IsReordered, ended, unended, kept, Share}
-use Rattle.rh_pictures.proofs.Common.{IsShared, Text, Place, after_read, lines_of_read, read_line, written_lines, Mapper}
-use Rattle.rh_pictures.proofs.Common.{Drew, TookLine}
+use Rattle.rh_pictures.proofs.Common.{subst, append-nil, append_assoc, arith, ◌+◌, Option, Err, is_err, if◌then◌else◌, nat_lt, not, ◌==◌, list_any, ne_eqb}
+use Rattle.rh_pictures.proofs.Common.{length-take, map-append, Command, TooLong, Meaning, Desk, IsReordered, ended, unended, kept, Share, IsShared, Text, Place}
+use Rattle.rh_pictures.proofs.Common.{after_read, lines_of_read, read_line, written_lines, Mapper, Drew, TookLine}
 use Rattle.std.specs.Io.KnownBytes.{IsAtEnd}
 use Rattle.rh_defs.specs.declared.fault.LineFault.TheVariants.{Unended}
 use Rattle.rh_defs.specs.Line.{longest_line}

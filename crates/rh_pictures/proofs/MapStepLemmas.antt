@@ -1,8 +1,7 @@
 -- A map behind one line: what its pen was offered, and where it stands.
-use Rattle.rh_pictures.proofs.Common.{◌≡◌, ℕ, ◌+◌, Bool, true, false, ◌||◌, List, [], ◌∷◌, ◌++◌, append-nil, refl, sym, ap, ap₂, ◌∙◌, subst, length}
-use Rattle.rh_pictures.proofs.Common.{Option, Some, None, Ok, Err, ◌&&◌, if◌then◌else◌, is_err, not, ◌==◌, eqb-true, Command, LineFault}
-use Rattle.rh_pictures.proofs.Common.{Desk, Meaning, line_means, IsReordered, step, fault_text, kept, kept_means, Share, IsShared, Text, scene_of, Place}
-use Rattle.rh_pictures.proofs.Common.{Reply, after_read, arith}
+use Rattle.rh_pictures.proofs.Common.{◌≡◌, ℕ, ◌+◌, Bool, true, false, ◌||◌, List, [], ◌∷◌, ◌++◌, append-nil, refl, sym, ap, ap₂, ◌∙◌, subst, length, Option}
+use Rattle.rh_pictures.proofs.Common.{Some, None, Ok, Err, ◌&&◌, if◌then◌else◌, is_err, not, ◌==◌, eqb-true, Command, LineFault, Desk, Meaning, line_means}
+use Rattle.rh_pictures.proofs.Common.{IsReordered, step, fault_text, kept, kept_means, Share, IsShared, Text, scene_of, Place, Reply, after_read, arith}
 use Rattle.rh_pictures.proofs.Common.{is_mark, lines_of_read, written_lines, Mapper, reply_to, Drew, TookLine, place_in}
 use Rattle.rh_defs.specs.declared.reply.Reply.TheVariants.{Done}
 use Rattle.rh_session.specs.Taken.{Gives}

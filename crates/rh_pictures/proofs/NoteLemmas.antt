@@ -1,9 +1,7 @@
 -- What is kept of the last messages.
-use Rattle.rh_pictures.proofs.SheetCommon.{◌≡◌, ℕ, ◌+◌, ◌-◌, ◌<◌, ◌≤◌, Bool, true, false, refl, ap, ap₂, sym, ◌∙◌, arith, List, [], ◌∷◌, ◌++◌, length, map}
-use Rattle.rh_pictures.proofs.SheetCommon.{take}
-use Rattle.rh_pictures.proofs.SheetCommon.{drop, set, get_or, Option, append-nil, ◌==◌, find, drop_all, take_all, Parcel, Desk, task_at, Before, scene_of}
-use Rattle.rh_pictures.proofs.SheetCommon.{Share}
-use Rattle.rh_pictures.proofs.SheetCommon.{Note, followed, noted, MessageItem, message_items, held_on, waiting_on, code_among}
+use Rattle.rh_pictures.proofs.Common.{◌≡◌, ℕ, ◌+◌, ◌-◌, ◌<◌, ◌≤◌, Bool, true, false, refl, ap, ap₂, sym, ◌∙◌, arith, List, [], ◌∷◌, ◌++◌, length, map, take}
+use Rattle.rh_pictures.proofs.Common.{drop, set, get_or, Option, append-nil, ◌==◌, find, drop_all, take_all, Parcel, Desk, task_at, Before, scene_of, Share}
+use Rattle.rh_pictures.proofs.Common.{Note, followed, noted, MessageItem, message_items, held_on, waiting_on, code_among}
 use Rattle.std.specs.List.{refill}
 use Rattle.std.proofs.lemmas.List.{get_or_default}
 use Rattle.std.proofs.lemmas.List.Edits.{map_over_more}

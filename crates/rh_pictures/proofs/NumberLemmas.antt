@@ -1,7 +1,7 @@
 -- Numbers in order, put in one by one.
-use Rattle.rh_pictures.proofs.SheetCommon.{◌≡◌, ◌≢◌, ℕ, suc, ◌<◌, ◌≤◌, Bool, true, false, refl, ap, ap₂, sym, ◌∙◌, arith, eq-eqb, List, [], ◌∷◌, ◌++◌, length}
-use Rattle.rh_pictures.proofs.SheetCommon.{get_or, nat_lt, Option, Some, None, ◌==◌, nat_le, not, if◌then◌else◌, insert, ne_eqb, nat_tests, drop_all, take_all}
-use Rattle.rh_pictures.proofs.SheetCommon.{inserted}
+use Rattle.rh_pictures.proofs.Common.{◌≡◌, ◌≢◌, ℕ, suc, ◌<◌, ◌≤◌, Bool, true, false, refl, ap, ap₂, sym, ◌∙◌, arith, eq-eqb, List, [], ◌∷◌, ◌++◌, length}
+use Rattle.rh_pictures.proofs.Common.{get_or, nat_lt, Option, Some, None, ◌==◌, nat_le, not, if◌then◌else◌, insert, ne_eqb, nat_tests, drop_all, take_all}
+use Rattle.rh_pictures.proofs.Common.{inserted}
 use Rattle.std.specs.List.{position, position_or_len}
 use Rattle.std.proofs.lemmas.List.Sums.{prefix_len-le-length}
 

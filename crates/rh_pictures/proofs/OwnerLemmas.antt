@@ -1,8 +1,7 @@
 -- The owners of pages as they are seen, one after the other.
-use Rattle.rh_pictures.proofs.SheetCommon.{◌≡◌, ℕ, ◌+◌, ◌<◌, ◌≤◌, ap, sym, ◌∙◌, arith, refl, List, ◌++◌, length, map, IfNone}
-use Rattle.rh_pictures.proofs.SheetCommon.{IfSome, codes, slice_get, slice_index, if◌then◌else◌, ◌==◌, Option, Some, None, enumerate_from}
-use Rattle.rh_pictures.proofs.SheetCommon.{length-append, length-map, Desk, Task, module_pages, task_at, AreaOf, Holding}
-use Rattle.rh_pictures.proofs.SheetCommon.{IsShared, SlotOf, count_of, holdings, IsTaskSeen, at-some, owned-few, seen-fixed, seen-slot, who_seen}
+use Rattle.rh_pictures.proofs.Common.{◌≡◌, ℕ, ◌+◌, ◌<◌, ◌≤◌, ap, sym, ◌∙◌, arith, refl, List, ◌++◌, length, map, IfNone, IfSome, codes, slice_get, slice_index}
+use Rattle.rh_pictures.proofs.Common.{if◌then◌else◌, ◌==◌, Option, Some, None, enumerate_from, length-append, length-map, Desk, Task, module_pages, task_at}
+use Rattle.rh_pictures.proofs.Common.{AreaOf, Holding, IsShared, SlotOf, count_of, holdings, IsTaskSeen, at-some, who_seen}
 use Rattle.std.proofs.lemmas.List.FromFn.{length-enumerate_from}
 use Rattle.std.proofs.lemmas.Option.{slice_get_past}
 use Rattle.rh_defs.specs.declared.sizes.TheConstants.{MAX_AREAS}
@@ -18,7 +17,7 @@ use Rattle.rh_scene.specs.Seen.{owner_seen}
 use Rattle.rh_scene.proofs.Holders.{area-at, stands-count, stands-fixed, stands-made, stands-slot}
 use Rattle.rh_scene.proofs.Places.{past-end}
 use Rattle.rh_pictures.proofs.DrawingLemmas.{task-stands}
-use Rattle.rh_pictures.proofs.PageLemmas.{seen-made}
+use Rattle.rh_pictures.proofs.PageLemmas.{seen-made, owned-few, seen-fixed, seen-slot}
 use Rattle.rh_pictures.specs.declared.owners.Named.TheVariants.{Area, Slot}
 use Rattle.rh_pictures.specs.declared.owners.OwnerSight.{OwnerSight}
 use Rattle.rh_pictures.specs.PaintedOwners.{IsOwnerOf, IsOwnerSeen}

@@ -1,8 +1,8 @@
 -- Owners of pages, and the pages that they have.
-use Rattle.rh_pictures.proofs.Common.{◌≡◌, ℕ, zero, suc, ◌+◌, ◌<◌, ◌≤◌, false, true, arith, refl, ap, sym, subst, ◌∙◌, List, [], ◌∷◌, length, drop}
-use Rattle.rh_pictures.proofs.Common.{Some, IfSome, slice_get, slice_index, if◌then◌else◌, ◌==◌, nat_lt, enumerate_from, option_map, nat_tests}
-use Rattle.rh_pictures.proofs.Common.{drop_more, Desk, Made, Task, module_pages, task_pages, IsDesk, Rise, taken_line, Scene, AreaOf}
-use Rattle.rh_pictures.proofs.Common.{IsShared, Owner, SlotOf, Text, append-nil, at-some, count_of, flat_map, share_in}
+use Rattle.rh_pictures.proofs.Common.{◌≡◌, ℕ, zero, suc, ◌+◌, ◌<◌, ◌≤◌, false, true, arith, refl, ap, sym, subst, ◌∙◌, List, [], ◌∷◌, length, drop, Some}
+use Rattle.rh_pictures.proofs.Common.{IfSome, slice_get, slice_index, if◌then◌else◌, ◌==◌, nat_lt, enumerate_from, option_map, nat_tests, drop_more, Desk, Made}
+use Rattle.rh_pictures.proofs.Common.{Task, module_pages, task_pages, IsDesk, Rise, taken_line, Scene, AreaOf, IsShared, Owner, SlotOf, Text, append-nil}
+use Rattle.rh_pictures.proofs.Common.{at-some, count_of, flat_map, share_in}
 use Rattle.rh_defs.specs.Forms.{first_made, most_pages}
 use Rattle.rh_defs.specs.Desk.{module_area}
 use Rattle.rh_figure.specs.Changes.{taken_pages, takes_text}

@@ -1,8 +1,8 @@
 -- The list of all messages, and the post that it lists, task by task.
 use Rattle.rh_pictures.proofs.Common.{◌≡◌, ℕ, ◌+◌, ◌<◌, ◌≤◌, Bool, true, false, refl, ap, ap₂, sym, subst, ◌∙◌, arith, List, [], ◌∷◌, ◌++◌, length, map, take}
 use Rattle.rh_pictures.proofs.Common.{Option, Some, None, append-nil, ◌==◌, ◌&&◌, not, IfSome, codes, filter, find, if◌then◌else◌, AllByRecursion, flat_map}
-use Rattle.rh_pictures.proofs.Common.{list_any, option_map, ne_eqb, eqb-true, IsDesk, Rise, Parcel, Desk, Task, Text}
-use Rattle.rh_pictures.proofs.Common.{MessageItem, held_on, lies_in, message_items, waiting_on, has_letters_in, letterboxes_in}
+use Rattle.rh_pictures.proofs.Common.{list_any, option_map, ne_eqb, eqb-true, IsDesk, Rise, Parcel, Desk, Task, Text, MessageItem, held_on, lies_in}
+use Rattle.rh_pictures.proofs.Common.{message_items, waiting_on, has_letters_in, letterboxes_in}
 use Rattle.std.specs.List.{join_by}
 use Rattle.std.proofs.lemmas.List.{length-map, take-map}
 use Rattle.std.proofs.lemmas.List.Elements.{filter-append}

@@ -1,7 +1,6 @@
 -- What is written of a step, part by part.
-use Rattle.rh_pictures.proofs.SheetCommon.{◌≡◌, ℕ, Bool, true, false, List, [], ◌∷◌, ◌++◌, refl, sym, ap, ◌∙◌, if◌then◌else◌, concat}
-use Rattle.rh_pictures.proofs.SheetCommon.{changes, Text, Scene, Note, changes_text, figure_text, said_end}
-use Rattle.rh_pictures.proofs.SheetCommon.{step_end, step_text}
+use Rattle.rh_pictures.proofs.Common.{◌≡◌, ℕ, Bool, true, false, List, [], ◌∷◌, ◌++◌, refl, sym, ap, ◌∙◌, if◌then◌else◌, concat, changes, Text, Scene, Note}
+use Rattle.rh_pictures.proofs.Common.{changes_text, figure_text, said_end, step_end, step_text}
 use Rattle.rh_sheet.specs.SheetSteps.{said_text, still_text}
 
 -- what stands behind what is said at a step

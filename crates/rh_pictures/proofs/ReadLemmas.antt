@@ -1,8 +1,7 @@
 -- A line as far as it is kept: its meaning, its lines in a map, and where the map stands behind it.
 use Rattle.rh_pictures.proofs.Common.{◌≡◌, ℕ, ◌+◌, ◌<◌, ◌≤◌, ◌⊎◌, inl, inr, Bool, List, [], ◌∷◌, ◌++◌, length, take, drop, zero, suc, refl, sym, ap, ◌∙◌, arith}
 use Rattle.rh_pictures.proofs.Common.{codes, nat_le, if◌then◌else◌, Err, not, ◌||◌, length-take, decimal, LineFault, TooLong, line_means, Desk, kept}
-use Rattle.rh_pictures.proofs.Common.{kept_means}
-use Rattle.rh_pictures.proofs.Common.{Share, Text, cut, Place, after_read, lines_of_read, read_line}
+use Rattle.rh_pictures.proofs.Common.{kept_means, Share, Text, cut, Place, after_read, lines_of_read, read_line}
 use Rattle.rh_defs.specs.Line.{longest_line}
 use Rattle.rh_defs.proofs.HeapLists.{cond_false, leb_no}
 use Rattle.rh_session.proofs.LineLemmas.{is_above, kept_short, split_at}

@@ -1,10 +1,7 @@
 -- A sheet from the lines that were taken, one after the other.
-use Rattle.rh_pictures.proofs.SheetCommon.{◌≡◌, Bool, true, false, ◌||◌, List, [], ◌∷◌, ◌++◌, map, refl, sym, ap, ap₂, ◌∙◌, subst, append-nil, append_assoc}
-use Rattle.rh_pictures.proofs.SheetCommon.{Option}
-use Rattle.rh_pictures.proofs.SheetCommon.{is_err, list_any, Command, Meaning, line_means, Desk, kept, kept_means, Share}
-use Rattle.rh_pictures.proofs.SheetCommon.{IsShared, Text, Place, Read, Stage, after_read, AreShared, Walk, behind_read, read_text, sheet_lines, Painter}
-use Rattle.rh_pictures.proofs.SheetCommon.{PaintedLine}
-use Rattle.rh_pictures.proofs.SheetCommon.{TookPaintedLine}
+use Rattle.rh_pictures.proofs.Common.{◌≡◌, Bool, true, false, ◌||◌, List, [], ◌∷◌, ◌++◌, map, refl, sym, ap, ap₂, ◌∙◌, subst, append-nil, append_assoc, Option}
+use Rattle.rh_pictures.proofs.Common.{is_err, list_any, Command, Meaning, line_means, Desk, kept, kept_means, Share, IsShared, Text, Place, Read, Stage}
+use Rattle.rh_pictures.proofs.Common.{after_read, AreShared, Walk, behind_read, read_text, sheet_lines, Painter, PaintedLine, TookPaintedLine}
 use Rattle.rh_defs.specs.Script.{is_bad}
 use Rattle.rh_session.specs.Taken.{TookAll}
 use Rattle.rh_figure.specs.Map.{read_line}

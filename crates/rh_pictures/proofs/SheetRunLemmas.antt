@@ -1,9 +1,8 @@
 -- A whole sheet, from the lines that were taken.
-use Rattle.rh_pictures.proofs.SheetCommon.{◌≡◌, ◌⊎◌, inl, inr, ℕ, Bool, true, false, ◌||◌, List, [], ◌∷◌, ◌++◌, length, map, take, refl, sym, ap, ap₂, ◌∙◌}
-use Rattle.rh_pictures.proofs.SheetCommon.{subst}
-use Rattle.rh_pictures.proofs.SheetCommon.{append-nil, arith, Err, Ok, Result, is_err, not, ◌==◌, list_any, ne_eqb, Desk, IsReordered, rest_means}
-use Rattle.rh_pictures.proofs.SheetCommon.{kept, IsShared, Text, Place, Read, Stage, after_read, AreShared, Output, Takes, Breaks, Puts, takes_more, Walk}
-use Rattle.rh_pictures.proofs.SheetCommon.{behind_read, read_text, sheet_lines, Painter, TookPaintedLine}
+use Rattle.rh_pictures.proofs.Common.{◌≡◌, ◌⊎◌, inl, inr, ℕ, Bool, true, false, ◌||◌, List, [], ◌∷◌, ◌++◌, length, map, take, refl, sym, ap, ap₂, ◌∙◌, subst}
+use Rattle.rh_pictures.proofs.Common.{append-nil, arith, Err, Ok, Result, is_err, not, ◌==◌, list_any, ne_eqb, Desk, IsReordered, rest_means, kept, IsShared}
+use Rattle.rh_pictures.proofs.Common.{Text, Place, Read, Stage, after_read, AreShared, Output, Takes, Breaks, Puts, takes_more, Walk, behind_read, read_text}
+use Rattle.rh_pictures.proofs.Common.{sheet_lines, Painter, TookPaintedLine}
 use Rattle.std.specs.Io.KnownBytes.{Consumes, IsAtEnd}
 use Rattle.std.proofs.lemmas.List.{map-append}
 use Rattle.rh_defs.specs.Script.{ended, has_bad_line, is_bad, unended}

@@ -1,9 +1,8 @@
 -- A sheet behind one line: what was offered, and where it stands.
-use Rattle.rh_pictures.proofs.SheetCommon.{◌≡◌, ℕ, ◌+◌, Bool, true, false, ◌||◌, List, ◌++◌, refl, sym, ap, ap₂, ◌∙◌, subst, append-nil, Option, Some, None, Ok}
-use Rattle.rh_pictures.proofs.SheetCommon.{Err, ◌&&◌, if◌then◌else◌, is_err, not, nat_lt, Command, LineFault, Desk, Meaning, IsReordered, step}
-use Rattle.rh_pictures.proofs.SheetCommon.{fault_text, reply_to, Share, IsShared, Text, where_so, Before, marks_of, scene_of, Read, after_read}
-use Rattle.rh_pictures.proofs.SheetCommon.{offered_as, noted, Note, at_desk, Happened, behind_read, fault_happened, happened_text, read_text}
-use Rattle.rh_pictures.proofs.SheetCommon.{step_text, Painter, PaintStand, happened_at, walk_in}
+use Rattle.rh_pictures.proofs.Common.{◌≡◌, ℕ, ◌+◌, Bool, true, false, ◌||◌, List, ◌++◌, refl, sym, ap, ap₂, ◌∙◌, subst, append-nil, Option, Some, None, Ok, Err}
+use Rattle.rh_pictures.proofs.Common.{◌&&◌, if◌then◌else◌, is_err, not, nat_lt, Command, LineFault, Desk, Meaning, IsReordered, step, fault_text, reply_to}
+use Rattle.rh_pictures.proofs.Common.{Share, IsShared, Text, where_so, Before, marks_of, scene_of, Read, after_read, offered_as, noted, Note, at_desk, Happened}
+use Rattle.rh_pictures.proofs.Common.{behind_read, fault_happened, happened_text, read_text, step_text, Painter, PaintStand, happened_at, walk_in}
 use Rattle.rh_defs.specs.declared.reply.Reply.{Reply}
 use Rattle.rh_defs.specs.declared.reply.Reply.TheVariants.{Done}
 use Rattle.rh_pictures.specs.Deeds.{IsLikeReply}

@@ -1,7 +1,6 @@
 -- The pieces of an area end within it; the last piece of a slot; the anchors of its blocks.
-use Rattle.rh_pictures.proofs.SheetCommon.{◌≡◌, ℕ, suc, ◌+◌, ◌-◌, ◌*◌, ◌<◌, ◌≤◌, refl, ap, sym, ◌∙◌, arith, false, List, [], ◌∷◌, ◌++◌, length, take, drop}
-use Rattle.rh_pictures.proofs.SheetCommon.{Some}
-use Rattle.rh_pictures.proofs.SheetCommon.{slice_get, AllByRecursion, BlockItem, base, Piece, Scene}
+use Rattle.rh_pictures.proofs.Common.{◌≡◌, ℕ, suc, ◌+◌, ◌-◌, ◌*◌, ◌<◌, ◌≤◌, refl, ap, sym, ◌∙◌, arith, false, List, [], ◌∷◌, ◌++◌, length, take, drop, Some}
+use Rattle.rh_pictures.proofs.Common.{slice_get, AllByRecursion, BlockItem, base, Piece, Scene}
 use Rattle.std.proofs.lemmas.List.{take-append-drop}
 use Rattle.rh_defs.specs.Heap.{Heap, Segment, Used, Hole, size_of}
 use Rattle.rh_defs.specs.Questions.{block_items_from}

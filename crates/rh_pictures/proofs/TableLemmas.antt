@@ -1,5 +1,5 @@
 -- The tables beside a figure: whether they have rows.
-use Rattle.rh_pictures.proofs.SheetCommon.{◌≡◌, false, flat_map, map, refl, ap, sym, true, ◌∙◌, List, [], ◌∷◌, ◌++◌, codes, Text}
+use Rattle.rh_pictures.proofs.Common.{◌≡◌, false, flat_map, map, refl, ap, sym, true, ◌∙◌, List, [], ◌∷◌, ◌++◌, codes, Text}
 use Rattle.std.proofs.lemmas.List.Folds.{flat_map-map}
 use Rattle.rh_sheet.specs.Tables.{rows_under}
 use Rattle.rh_pictures.proofs.UnderLemmas.{is_some, some-more}

@@ -1,9 +1,8 @@
 -- What a painter has done with a line as far as it is kept, and with what stands behind the last line feed.
-use Rattle.rh_pictures.proofs.SheetCommon.{◌≡◌, ℕ, List, Bool, true, false, ◌||◌, [], ◌∷◌, ◌++◌, length, refl, sym, ap, ap₂, ◌∙◌, subst, arith, Option, Err}
-use Rattle.rh_pictures.proofs.SheetCommon.{is_err}
-use Rattle.rh_pictures.proofs.SheetCommon.{not, ◌==◌, Command, LineFault, Desk, Meaning, line_means, IsReordered, rest_means, kept, kept_means}
-use Rattle.rh_pictures.proofs.SheetCommon.{Share, IsShared, Text, Place, Read, after_read, at_desk, Walk, behind_read}
-use Rattle.rh_pictures.proofs.SheetCommon.{read_text, sheet_lines, Painter, TookPaintedLine, offered_as, walk_in}
+use Rattle.rh_pictures.proofs.Common.{◌≡◌, ℕ, List, Bool, true, false, ◌||◌, [], ◌∷◌, ◌++◌, length, refl, sym, ap, ap₂, ◌∙◌, subst, arith, Option, Err, is_err}
+use Rattle.rh_pictures.proofs.Common.{not, ◌==◌, Command, LineFault, Desk, Meaning, line_means, IsReordered, rest_means, kept, kept_means, Share, IsShared}
+use Rattle.rh_pictures.proofs.Common.{Text, Place, Read, after_read, at_desk, Walk, behind_read, read_text, sheet_lines, Painter, TookPaintedLine, offered_as}
+use Rattle.rh_pictures.proofs.Common.{walk_in}
 use Rattle.std.proofs.lemmas.Bool.{eqb-true}
 use Rattle.rh_pictures.proofs.MapRunLemmas.{kept_some}
 use Rattle.rh_session.specs.Taken.{Gives}

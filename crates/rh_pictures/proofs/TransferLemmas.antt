@@ -1,7 +1,7 @@
 -- The sides of transfers, task by task.
 use Rattle.rh_pictures.proofs.Common.{◌≡◌, ℕ, Bool, true, false, arith, refl, ap, ap₂, sym, ◌∙◌, List, [], ◌∷◌, ◌++◌, length, map, Option, Some, None, ◌==◌}
-use Rattle.rh_pictures.proofs.Common.{◌||◌, not, filter, find, flat_map, list_any, option_map, ne_eqb, map-append, Incoming, Outgoing, Task}
-use Rattle.rh_pictures.proofs.Common.{in_item, out_item, in_id, Side, has_id, Text, append-nil, alone_among, comes_alone, goes_out, ins_named, outs_named}
+use Rattle.rh_pictures.proofs.Common.{◌||◌, not, filter, find, flat_map, list_any, option_map, ne_eqb, map-append, Incoming, Outgoing, Task, in_item, out_item}
+use Rattle.rh_pictures.proofs.Common.{in_id, Side, has_id, Text, append-nil, alone_among, comes_alone, goes_out, ins_named, outs_named}
 use Rattle.std.proofs.lemmas.List.Elements.{filter-append}
 use Rattle.std.proofs.lemmas.List.Folds.{find-append, list_any-append}
 use Rattle.rh_defs.specs.declared.question.RecordItem.{RecordItem}

@@ -1,6 +1,6 @@
 -- Lists that are shown or looked through, place by place.
-use Rattle.rh_pictures.proofs.Common.{◌≡◌, ℕ, ◌+◌, ◌<◌, ap, sym, ◌∙◌, List, [], ◌∷◌, ◌++◌, length, drop, get_or, Some, None, append_assoc, append-nil}
-use Rattle.rh_pictures.proofs.Common.{codes, slice_get, flat_map, drop_more, Text, map, shown_lines, shown-append, rest-none, rest-some}
+use Rattle.rh_pictures.proofs.Common.{◌≡◌, ℕ, ◌+◌, ◌<◌, ap, sym, ◌∙◌, List, [], ◌∷◌, ◌++◌, length, drop, get_or, Some, None, append_assoc, append-nil, codes}
+use Rattle.rh_pictures.proofs.Common.{slice_get, flat_map, drop_more, Text, map, shown_lines, shown-append, rest-none, rest-some}
 use Rattle.rh_figure.specs.Map.{shown_line}
 use Rattle.rh_map.proofs.SeamLemmas.{shown-one}
 use Rattle.std.proofs.lemmas.List.Folds.{flat_map-map}

@@ -1,6 +1,6 @@
 -- The arrows of a chart, one by one.
-use Rattle.rh_pictures.proofs.SheetCommon.{◌≡◌, ℕ, Bool, true, false, refl, ap, sym, ◌∙◌, List, [], ◌∷◌, ◌++◌, ◌==◌, not, filter, flat_map, inserted, steps_in}
-use Rattle.rh_pictures.proofs.SheetCommon.{tasks_in, MessageArrow, arrows_seen}
+use Rattle.rh_pictures.proofs.Common.{◌≡◌, ℕ, Bool, true, false, refl, ap, sym, ◌∙◌, List, [], ◌∷◌, ◌++◌, ◌==◌, not, filter, flat_map, inserted, steps_in}
+use Rattle.rh_pictures.proofs.Common.{tasks_in, MessageArrow, arrows_seen}
 use Rattle.rh_sheet.specs.Chart.{Arrow, ordered}
 use Rattle.rh_pictures.specs.Inner.WaySteps.{with_step}
 

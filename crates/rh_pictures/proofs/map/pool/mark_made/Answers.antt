@@ -1,5 +1,4 @@
-use Rattle.rh_pictures.proofs.Common.{[], ◌+◌, drop, map, ap, ap₂, sym, ◌∙◌, AreaOf, share_in, rest-none, rest-some}
-use Rattle.rh_pictures.proofs.Common.{made_pages, marked, marked_all}
+use Rattle.rh_pictures.proofs.Common.{[], ◌+◌, drop, map, ap, ap₂, sym, ◌∙◌, AreaOf, share_in, rest-none, rest-some, made_pages, marked, marked_all}
 use Rattle.rh_scene.specs.declared.sight.PagesOf.TheVariants as pages
 use Rattle.rh_pictures.proofs.PageLemmas.{owned, seen-made}
 use Rattle.rh_pictures.proofs.map.pool.mark_made.Goals as goal

@@ -1,5 +1,5 @@
-use Rattle.rh_pictures.proofs.Common.{suc, add-one, ◌+◌, drop, ap, ap₂, sym, ◌∙◌, arith, slice_get_within, SlotOf, share_in, rest-none, rest-some}
-use Rattle.rh_pictures.proofs.Common.{marked, marked_all, slot_pages_from}
+use Rattle.rh_pictures.proofs.Common.{suc, add-one, ◌+◌, drop, ap, ap₂, sym, ◌∙◌, arith, slice_get_within, SlotOf, share_in, rest-none, rest-some, marked}
+use Rattle.rh_pictures.proofs.Common.{marked_all, slot_pages_from}
 use Rattle.rh_scene.specs.declared.sight.PagesOf.TheVariants as pages
 use Rattle.rh_pictures.proofs.PageLemmas.{owned, seen-slot}
 use Rattle.rh_pictures.proofs.map.pool.mark_slots.Goals as goal

@@ -1,6 +1,5 @@
 use Rattle.rh_pictures.proofs.Common.{◌≡◌, Bool, true, false, [], ◌∷◌, Some, None, ap, sym, ◌∙◌, arith, if◌then◌else◌, slice_get_within, shown_lines}
-use Rattle.rh_pictures.proofs.Common.{IsTaskSeen}
-use Rattle.rh_pictures.proofs.Common.{scene_at}
+use Rattle.rh_pictures.proofs.Common.{IsTaskSeen, scene_at}
 use Rattle.rh_figure.specs.Figure.{is_drawn, slot_drawing}
 use Rattle.rh_figure.specs.Map.{drawing_lines}
 use Rattle.rh_pictures.specs.Inner.PartsBehind.{slot_heading}

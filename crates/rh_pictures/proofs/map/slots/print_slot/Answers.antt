@@ -1,6 +1,6 @@
-use Rattle.rh_pictures.proofs.Common.{◌≡◌, ◌+◌, ◌++◌, Some, length, ap, sym, ◌∙◌, refl, arith, option_map, map-append, slice_get_within, Task, flex_start}
-use Rattle.rh_pictures.proofs.Common.{Card, List, Option, slice_get}
-use Rattle.rh_pictures.proofs.Common.{flex_cards, shown_cards, card_line, area_rows, Scene, SlotOf, shown_lines, heap_seen, scene_at, at-some, card_lines}
+use Rattle.rh_pictures.proofs.Common.{◌≡◌, ◌+◌, ◌++◌, Some, length, ap, sym, ◌∙◌, refl, arith, option_map, map-append, slice_get_within, Task, flex_start, Card}
+use Rattle.rh_pictures.proofs.Common.{List, Option, slice_get, flex_cards, shown_cards, card_line, area_rows, Scene, SlotOf, shown_lines, heap_seen, scene_at}
+use Rattle.rh_pictures.proofs.Common.{at-some, card_lines}
 use Rattle.rh_defs.specs.Heap.{first_place}
 use Rattle.rh_defs.specs.Slot.{heap_start}
 use Rattle.rh_figure.specs.Cards.{cards_from, heap_cards}

@@ -1,4 +1,4 @@
-use Rattle.rh_pictures.proofs.SheetCommon.{◌≡◌, true, length, ap₂, sym, ◌∙◌, ◌==◌, ◌||◌, not, letterboxes, transfers, scene_at, ins_of, outs_of}
+use Rattle.rh_pictures.proofs.Common.{◌≡◌, true, length, ap₂, sym, ◌∙◌, ◌==◌, ◌||◌, not, letterboxes, transfers, scene_at, ins_of, outs_of}
 use Rattle.rh_pictures.proofs.TransferLemmas.{sides-some}
 use Rattle.rh_pictures.proofs.PostLemmas.{boxes-told}
 use Rattle.rh_pictures.proofs.UnderLemmas.{is_some}

@@ -1,4 +1,4 @@
-use Rattle.rh_pictures.proofs.SheetCommon.{sym, ◌∙◌, refl, append_assoc, scene_at, offered_as}
+use Rattle.rh_pictures.proofs.Common.{sym, ◌∙◌, refl, append_assoc, scene_at, offered_as}
 use Rattle.rh_pictures.proofs.AsideLemmas.{aside-parts}
 use Rattle.rh_pictures.proofs.sheet.aside.print_aside.Goals as goal
 

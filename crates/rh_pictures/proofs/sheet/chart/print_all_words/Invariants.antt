@@ -1,4 +1,4 @@
-use Rattle.rh_pictures.proofs.SheetCommon.{◌≡◌, ◌++◌, take, flat_map, words_in, arrows_seen}
+use Rattle.rh_pictures.proofs.Common.{◌≡◌, ◌++◌, take, flat_map, words_in, arrows_seen}
 use Rattle.rh_pictures.proofs.sheet.chart.print_all_words.Given as goal
 
 -- those before the place were offered

@@ -1,4 +1,4 @@
-use Rattle.rh_pictures.proofs.SheetCommon.{MessageArrow, append-nil, append_assoc, arrow_of, false, flat_map-append, path_in}
+use Rattle.rh_pictures.proofs.Common.{MessageArrow, append-nil, append_assoc, arrow_of, false, flat_map-append, path_in}
 use Rattle.std.proofs.lemmas.List.{map-append, take_more}
 use Rattle.rh_defs.specs.declared.message.Action.TheVariants.{DataSave}
 use Rattle.rh_pictures.proofs.sheet.chart.print_arrows.Goals as goal

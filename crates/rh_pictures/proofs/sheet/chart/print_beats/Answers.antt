@@ -1,4 +1,4 @@
-use Rattle.rh_pictures.proofs.SheetCommon.{append-nil, append_assoc, beat_in, flat_map-append}
+use Rattle.rh_pictures.proofs.Common.{append-nil, append_assoc, beat_in, flat_map-append}
 use Rattle.std.proofs.lemmas.List.{take_more}
 use Rattle.rh_pictures.proofs.sheet.chart.print_beats.Goals as goal
 

@@ -1,4 +1,4 @@
-use Rattle.rh_pictures.proofs.SheetCommon.{◌<◌, ap, sym, ◌∙◌, arith, length, steps_in, tasks_in, arrows_seen}
+use Rattle.rh_pictures.proofs.Common.{◌<◌, ap, sym, ◌∙◌, arith, length, steps_in, tasks_in, arrows_seen}
 use Rattle.rh_pictures.proofs.ChartLemmas.{drawn-some}
 use Rattle.rh_pictures.proofs.sheet.chart.print_chart.Goals as goal
 

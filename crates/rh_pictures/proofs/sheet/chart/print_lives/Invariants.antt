@@ -1,4 +1,4 @@
-use Rattle.rh_pictures.proofs.SheetCommon.{◌≡◌, ◌++◌, take, flat_map}
+use Rattle.rh_pictures.proofs.Common.{◌≡◌, ◌++◌, take, flat_map}
 use Rattle.rh_pictures.specs.Inner.Charts.{life_in}
 use Rattle.rh_pictures.proofs.sheet.chart.print_lives.Given as goal
 

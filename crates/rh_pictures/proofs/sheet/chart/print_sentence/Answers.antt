@@ -1,4 +1,4 @@
-use Rattle.rh_pictures.proofs.SheetCommon.{◌≡◌, ◌++◌, ap, ap₂, ◌∙◌, codes, decimal, Text, task_name, escape, offered_as}
+use Rattle.rh_pictures.proofs.Common.{◌≡◌, ◌++◌, ap, ap₂, ◌∙◌, codes, decimal, Text, task_name, escape, offered_as}
 use Rattle.rh_sheet.specs.Chart.{stop_sentence}
 use Rattle.rh_pictures.specs.Ways.{way_words}
 use Rattle.rh_pictures.proofs.ChartLemmas.{nine-parts}

@@ -1,4 +1,4 @@
-use Rattle.rh_pictures.proofs.SheetCommon.{append_assoc, arrows_seen, offered_as}
+use Rattle.rh_pictures.proofs.Common.{append_assoc, arrows_seen, offered_as}
 use Rattle.rh_pictures.proofs.ChartLemmas.{chart-parts, ways-some}
 use Rattle.rh_pictures.proofs.sheet.chart.print_whole.Goals as goal
 

@@ -1,4 +1,4 @@
-use Rattle.rh_pictures.proofs.SheetCommon.{List, ap, Note, figure_text, scene_at, offered_as}
+use Rattle.rh_pictures.proofs.Common.{List, ap, Note, figure_text, scene_at, offered_as}
 use Rattle.rh_sheet.specs.SheetSteps.{aside_text}
 use Rattle.rh_pictures.proofs.TextPuts.{text_then}
 use Rattle.rh_pictures.proofs.sheet.figure.print_figure.Goals as goal

@@ -1,5 +1,4 @@
-use Rattle.rh_pictures.proofs.SheetCommon.{◌≡◌, true, false, sym, ◌∙◌, append_assoc, letterboxes, letterbox_row, scene_at}
-use Rattle.rh_pictures.proofs.SheetCommon.{offered_as, offered_none}
+use Rattle.rh_pictures.proofs.Common.{◌≡◌, true, false, sym, ◌∙◌, append_assoc, letterboxes, letterbox_row, scene_at, offered_as, offered_none}
 use Rattle.rh_sheet.specs.Tables.{messages_heading}
 use Rattle.rh_pictures.proofs.TableLemmas.{rows-none, rows-some}
 use Rattle.rh_pictures.proofs.PostLemmas.{boxes-told}

@@ -1,5 +1,6 @@
-use Rattle.rh_pictures.proofs.SheetCommon.{◌≡◌, ◌+◌, length, ap, ap₂, refl, subst, sym, ◌∙◌, arith, ◌^◌, AllByRecursion, module_pages, base, module_cards}
-use Rattle.rh_pictures.proofs.SheetCommon.{AreaOf, lens_below, Frame, Plot, Census, scene_at, cards-long, owned-few, seen-fixed, offered_as}
+use Rattle.rh_pictures.proofs.Common.{◌≡◌, ◌+◌, length, ap, ap₂, refl, subst, sym, ◌∙◌, arith, ◌^◌, AllByRecursion, module_pages, base, module_cards, AreaOf}
+use Rattle.rh_pictures.proofs.Common.{lens_below, Frame, Plot, Census, scene_at, offered_as}
+use Rattle.rh_pictures.proofs.HeapLemmas.{cards-long}
 use Rattle.rh_figure.specs.Cards.{module_card}
 use Rattle.rh_figure.specs.Layout.{module_legend}
 use Rattle.rh_sheet.specs.SheetAreas.{module_frame}
@@ -7,7 +8,7 @@ use Rattle.rh_sheet.specs.SheetCards.{cards_below}
 use Rattle.rh_sheet.specs.Frames.{rows_foot}
 use Rattle.rh_sheet.specs.SheetRows.{rows_text}
 use Rattle.rh_scene.specs.declared.sight.PagesOf.TheVariants as pages
-use Rattle.rh_pictures.proofs.PageLemmas.{owned-fixed}
+use Rattle.rh_pictures.proofs.PageLemmas.{owned-fixed, owned-few, seen-fixed}
 use Rattle.rh_pictures.proofs.SlotLemmas.{EndsBy, heap-ends}
 use Rattle.rh_pictures.proofs.TextPuts.{text_last, text_then}
 use Rattle.rh_pictures.proofs.sheet.modules.print_body.Goals as goal

@@ -1,4 +1,4 @@
-use Rattle.rh_pictures.proofs.SheetCommon.{ap, sym, flat_map-append, module_cards, shown_cards, AreaOf, escape, escaped_byte, scene_at, offered_as}
+use Rattle.rh_pictures.proofs.Common.{ap, sym, flat_map-append, module_cards, shown_cards, AreaOf, escape, escaped_byte, scene_at, offered_as}
 use Rattle.rh_sheet.specs.SheetAreas.{pages_sentence}
 use Rattle.rh_sheet.specs.SheetCards.{cards_sentences}
 use Rattle.rh_pictures.proofs.BandLemmas.{told-all}

@@ -1,6 +1,7 @@
-use Rattle.rh_pictures.proofs.SheetCommon.{◌≡◌, ℕ, ◌+◌, List, length, ap, ap₂, refl, sym, ◌∙◌, arith, codes, max, min, module_cards, Piece, AreaOf}
-use Rattle.rh_pictures.proofs.SheetCommon.{count_of, Frame, figure_open, Plot, Census, scene_at, cards-long, from-first, owned, owned-few, seen-fixed}
-use Rattle.rh_pictures.proofs.SheetCommon.{offered_as}
+use Rattle.rh_pictures.proofs.Common.{◌≡◌, ℕ, ◌+◌, List, length, ap, ap₂, refl, sym, ◌∙◌, arith, codes, max, min, module_cards, Piece, AreaOf, count_of, Frame}
+use Rattle.rh_pictures.proofs.Common.{figure_open, Plot, Census, scene_at, offered_as}
+use Rattle.rh_pictures.proofs.HeapLemmas.{cards-long, from-first}
+use Rattle.rh_pictures.proofs.PageLemmas.{owned, owned-few, seen-fixed}
 use Rattle.rh_figure.specs.Cards.{module_card}
 use Rattle.rh_sheet.specs.SheetAreas.{rows_for}
 use Rattle.rh_sheet.specs.Frames.{frame_height}

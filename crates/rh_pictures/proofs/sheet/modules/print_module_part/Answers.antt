@@ -1,4 +1,4 @@
-use Rattle.rh_pictures.proofs.SheetCommon.{◌++◌, ap, ◌∙◌, area_name, heading_text, offered_as}
+use Rattle.rh_pictures.proofs.Common.{◌++◌, ap, ◌∙◌, area_name, heading_text, offered_as}
 use Rattle.rh_figure.specs.Phrases.{pages_text}
 use Rattle.rh_pictures.proofs.TextPuts.{text_then}
 use Rattle.rh_pictures.proofs.sheet.modules.print_module_part.Goals as goal

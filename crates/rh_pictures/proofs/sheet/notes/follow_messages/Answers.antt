@@ -1,4 +1,4 @@
-use Rattle.rh_pictures.proofs.SheetCommon.{◌≡◌, List, ap, ap₂, ◌∙◌, length, map, length-map, Note, followed, MessageItem, message_items, code_among}
+use Rattle.rh_pictures.proofs.Common.{◌≡◌, List, ap, ap₂, ◌∙◌, length, map, length-map, Note, followed, MessageItem, message_items, code_among}
 use Rattle.rh_pictures.proofs.NoteLemmas.{refilled}
 use Rattle.rh_pictures.proofs.sheet.notes.follow_messages.Goals as goal
 

@@ -1,4 +1,4 @@
-use Rattle.rh_pictures.proofs.SheetCommon.{ap, ◌∙◌, get_or, set, Note, followed, code_among}
+use Rattle.rh_pictures.proofs.Common.{ap, ◌∙◌, get_or, set, Note, followed, code_among}
 use Rattle.rh_defs.specs.declared.message.Action.TheVariants.{DataSave}
 use Rattle.rh_pictures.proofs.NoteLemmas.{written-more}
 use Rattle.rh_pictures.proofs.sheet.notes.follow_notes.Goals as goal

@@ -1,4 +1,4 @@
-use Rattle.rh_pictures.proofs.SheetCommon.{◌≡◌, ◌++◌, take, drop, map, Note, followed, code_among}
+use Rattle.rh_pictures.proofs.Common.{◌≡◌, ◌++◌, take, drop, map, Note, followed, code_among}
 use Rattle.rh_pictures.proofs.sheet.notes.follow_notes.Given as goal
 
 -- the notes so far follow the step

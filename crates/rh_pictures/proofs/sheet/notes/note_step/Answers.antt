@@ -1,5 +1,5 @@
-use Rattle.rh_pictures.proofs.SheetCommon.{◌≤◌, [], ◌∷◌, ◌++◌, None, Some, ap, ap₂, sym, ◌∙◌, arith, append-nil, length, refl, map, length-map, Note, followed}
-use Rattle.rh_pictures.proofs.SheetCommon.{message_items, code_among}
+use Rattle.rh_pictures.proofs.Common.{◌≤◌, [], ◌∷◌, ◌++◌, None, Some, ap, ap₂, sym, ◌∙◌, arith, append-nil, length, refl, map, length-map, Note, followed}
+use Rattle.rh_pictures.proofs.Common.{message_items, code_among}
 use Rattle.rh_sheet.specs.declared.sizes.TheConstants.{MOST_NOTES}
 use Rattle.rh_sheet.specs.Chart.{last_of}
 use Rattle.rh_scene.specs.Seen.{letter_seen}

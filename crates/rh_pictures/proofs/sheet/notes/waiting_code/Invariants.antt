@@ -1,4 +1,4 @@
-use Rattle.rh_pictures.proofs.SheetCommon.{◌≡◌, drop, code_among}
+use Rattle.rh_pictures.proofs.Common.{◌≡◌, drop, code_among}
 use Rattle.rh_pictures.proofs.sheet.notes.waiting_code.Given as goal
 
 -- no message so far waits under the ref

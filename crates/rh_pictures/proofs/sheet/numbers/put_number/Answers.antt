@@ -1,4 +1,4 @@
-use Rattle.rh_pictures.proofs.SheetCommon.{◌≡◌, ◌≢◌, ap, sym, ◌∙◌, arith, rules, get_or, length, insert, nat_le}
+use Rattle.rh_pictures.proofs.Common.{◌≡◌, ◌≢◌, ap, sym, ◌∙◌, arith, rules, get_or, length, insert, nat_le}
 use Rattle.std.specs.List.{position}
 use Rattle.rh_pictures.proofs.NumberLemmas.{insert-last, inserted-new, inserted-there, place-behind, place-found, place_of}
 use Rattle.rh_pictures.proofs.sheet.numbers.put_number.Goals as goal

@@ -1,4 +1,4 @@
-use Rattle.rh_pictures.proofs.SheetCommon.{◌∙◌, rules, sym}
+use Rattle.rh_pictures.proofs.Common.{◌∙◌, rules, sym}
 use Rattle.rh_lines.proofs.PenLemmas.{done_as, wrote}
 use Rattle.rh_pictures.specs.Inner.Heads.{head_of}
 use Rattle.rh_pictures.proofs.SheetRunLemmas.{head-offered}

@@ -1,4 +1,4 @@
-use Rattle.rh_pictures.proofs.SheetCommon.{◌<◌, length, refl, arith, flat_map, slice_get_within, holdings, left_less, left_none, scene_at}
+use Rattle.rh_pictures.proofs.Common.{◌<◌, length, refl, arith, flat_map, slice_get_within, holdings, left_less, left_none, scene_at}
 use Rattle.rh_sheet.specs.Pool.{owner_squares}
 use Rattle.rh_pictures.proofs.TextWalks.{text-none, text-some}
 use Rattle.rh_pictures.proofs.sheet.pool.print_all_squares.Goals as goal

@@ -1,4 +1,4 @@
-use Rattle.rh_pictures.proofs.SheetCommon.{◌-◌, length, drop, flat_map, holdings, Left, scene_at}
+use Rattle.rh_pictures.proofs.Common.{◌-◌, length, drop, flat_map, holdings, Left, scene_at}
 use Rattle.rh_sheet.specs.Pool.{owner_squares}
 use Rattle.rh_pictures.proofs.sheet.pool.print_all_squares.Given as goal
 

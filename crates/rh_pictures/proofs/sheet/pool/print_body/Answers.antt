@@ -1,4 +1,4 @@
-use Rattle.rh_pictures.proofs.SheetCommon.{ap₂, offered_as}
+use Rattle.rh_pictures.proofs.Common.{ap₂, offered_as}
 use Rattle.rh_sheet.specs.Pool.{pool_side}
 use Rattle.rh_pictures.proofs.TextPuts.{text_last, text_then}
 use Rattle.rh_pictures.proofs.sheet.pool.print_body.Goals as goal

@@ -1,4 +1,4 @@
-use Rattle.rh_pictures.proofs.SheetCommon.{◌-◌, ◌++◌, length, drop, codes, owner_name, Holding, holdings, Left, escape, escaped_byte, scene_at}
+use Rattle.rh_pictures.proofs.Common.{◌-◌, ◌++◌, length, drop, codes, owner_name, Holding, holdings, Left, escape, escaped_byte, scene_at}
 use Rattle.rh_defs.specs.Desk.{free_pages}
 use Rattle.rh_sheet.specs.Pool.{free_text, owner_sentence, pool_description}
 use Rattle.rh_pictures.proofs.ElementLemmas.{elements}

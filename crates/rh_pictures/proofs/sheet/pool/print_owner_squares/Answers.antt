@@ -1,5 +1,5 @@
-use Rattle.rh_pictures.proofs.SheetCommon.{◌≡◌, ℕ, List, [], ◌∷◌, length, take, drop, ap, ap₂, ◌∙◌, arith, codes, min, concat, taken_line, Text, owner_name}
-use Rattle.rh_pictures.proofs.SheetCommon.{count_of, scene_at, offered_as, who_seen}
+use Rattle.rh_pictures.proofs.Common.{◌≡◌, ℕ, List, [], ◌∷◌, length, take, drop, ap, ap₂, ◌∙◌, arith, codes, min, concat, taken_line, Text, owner_name}
+use Rattle.rh_pictures.proofs.Common.{count_of, scene_at, offered_as, who_seen}
 use Rattle.std.proofs.lemmas.List.{drop_min, take_min}
 use Rattle.rh_figure.specs.Phrases.{listed_numbers}
 use Rattle.rh_sheet.specs.Pool.{squares_text}

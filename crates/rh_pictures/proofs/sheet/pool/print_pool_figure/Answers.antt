@@ -1,4 +1,4 @@
-use Rattle.rh_pictures.proofs.SheetCommon.{ℕ, ap, ◌+◌, ◌∙◌, codes, Text, figure_open, offered_as}
+use Rattle.rh_pictures.proofs.Common.{ℕ, ap, ◌+◌, ◌∙◌, codes, Text, figure_open, offered_as}
 use Rattle.rh_sheet.specs.Pool.{pool_height}
 use Rattle.rh_sheet.specs.declared.sizes.TheConstants.{FIGURE_WIDTH, FRAME_EDGE}
 use Rattle.rh_pictures.proofs.TextPuts.{text_last, text_then}

@@ -1,4 +1,4 @@
-use Rattle.rh_pictures.proofs.SheetCommon.{◌-◌, List, length, ap, sym, ◌∙◌, slice_get, Piece, Plot}
+use Rattle.rh_pictures.proofs.Common.{◌-◌, List, length, ap, sym, ◌∙◌, slice_get, Piece, Plot}
 use Rattle.std.specs.Option.{option_copied}
 use Rattle.rh_pictures.proofs.SlotLemmas.{last-piece}
 use Rattle.rh_pictures.proofs.sheet.slots.flex_end.Goals as goal

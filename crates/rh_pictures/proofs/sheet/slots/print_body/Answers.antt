@@ -1,9 +1,8 @@
-use Rattle.rh_pictures.proofs.SheetCommon.{◌≡◌, ℕ, ◌+◌, ◌-◌, List, length, ap, ap₂, subst, sym, ◌∙◌, arith, ◌==◌, ◌^◌, ◌<◌, AllByRecursion, flat_map}
-use Rattle.rh_pictures.proofs.SheetCommon.{option_map, Task, task_at, BlockItem, flex_start, heap_start, flex_cards, heap_cards, shown_cards}
-use Rattle.rh_pictures.proofs.SheetCommon.{item_with_anchor}
-use Rattle.rh_pictures.proofs.SheetCommon.{slide_of, Text, where_so, Scene, SlotOf, ticks_text, Frame, Plot, IsTaskSeen, heap_seen, scene_at, task-slot}
-use Rattle.rh_pictures.proofs.SheetCommon.{at-some}
-use Rattle.rh_pictures.proofs.SheetCommon.{items-long, few-blocks, seen-same, owned-few, seen-slot, offered_as, IsSlotPlan}
+use Rattle.rh_pictures.proofs.Common.{◌≡◌, ℕ, ◌+◌, ◌-◌, List, length, ap, ap₂, subst, sym, ◌∙◌, arith, ◌==◌, ◌^◌, ◌<◌, AllByRecursion, flat_map, option_map}
+use Rattle.rh_pictures.proofs.Common.{Task, task_at, BlockItem, flex_start, heap_start, flex_cards, heap_cards, shown_cards, item_with_anchor, slide_of, Text}
+use Rattle.rh_pictures.proofs.Common.{where_so, Scene, SlotOf, ticks_text, Frame, Plot, IsTaskSeen, heap_seen, scene_at, task-slot, at-some, items-long}
+use Rattle.rh_pictures.proofs.Common.{few-blocks, offered_as, IsSlotPlan}
+use Rattle.rh_pictures.proofs.PageLemmas.{owned-few, seen-slot}
 use Rattle.rh_defs.specs.Heap.{first_place}
 use Rattle.rh_figure.specs.Cards.{cards_from}
 use Rattle.rh_sheet.specs.SheetAreas.{slot_frame, slot_lenses}
@@ -15,7 +14,7 @@ use Rattle.rh_scene.specs.declared.sight.HeapOf.TheVariants as heap_of
 use Rattle.rh_scene.specs.declared.sight.PagesOf.TheVariants as pages
 use Rattle.rh_scene.proofs.Heaps.{task-length}
 use Rattle.rh_pictures.specs.Bands.{card_of_task}
-use Rattle.rh_pictures.proofs.DrawingLemmas.{task-stands}
+use Rattle.rh_pictures.proofs.DrawingLemmas.{task-stands, seen-same}
 use Rattle.rh_pictures.specs.Inner.BandTexts.{band_text}
 use Rattle.rh_pictures.specs.declared.sheet.bands.BandForm.TheVariants.{Below}
 use Rattle.rh_pictures.proofs.LensLemmas.{arrow-same}

@@ -1,8 +1,8 @@
-use Rattle.rh_pictures.proofs.SheetCommon.{◌≡◌, ◌+◌, ◌++◌, [], ◌∷◌, length, ap, ap₂, append-nil, append_assoc, sym, ◌∙◌, arith, codes, concat, option_map}
-use Rattle.rh_pictures.proofs.SheetCommon.{flat_map-append, Task, flex_start, heap_start, flex_cards, heap_cards, shown_cards, Text, size_text, SlotOf, escape}
-use Rattle.rh_pictures.proofs.SheetCommon.{escaped_byte, Plot, IsTaskSeen, heap_seen, scene_at, task-slot, at-some, items-long, few-blocks, seen-same}
-use Rattle.rh_pictures.proofs.SheetCommon.{owned-few}
-use Rattle.rh_pictures.proofs.SheetCommon.{seen-slot, offered_as, IsSlotPlan}
+use Rattle.rh_pictures.proofs.Common.{◌≡◌, ◌+◌, ◌++◌, [], ◌∷◌, length, ap, ap₂, append-nil, append_assoc, sym, ◌∙◌, arith, codes, concat, option_map}
+use Rattle.rh_pictures.proofs.Common.{flat_map-append, Task, flex_start, heap_start, flex_cards, heap_cards, shown_cards, Text, size_text, SlotOf, escape}
+use Rattle.rh_pictures.proofs.Common.{escaped_byte, Plot, IsTaskSeen, heap_seen, scene_at, task-slot, at-some, items-long, few-blocks, offered_as, IsSlotPlan}
+use Rattle.rh_pictures.proofs.DrawingLemmas.{seen-same}
+use Rattle.rh_pictures.proofs.PageLemmas.{owned-few, seen-slot}
 use Rattle.rh_defs.specs.Heap.{first_place}
 use Rattle.rh_figure.specs.Cards.{cards_from}
 use Rattle.rh_sheet.specs.SheetAreas.{pages_sentence}

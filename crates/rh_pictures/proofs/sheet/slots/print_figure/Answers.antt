@@ -1,6 +1,8 @@
-use Rattle.rh_pictures.proofs.SheetCommon.{◌≡◌, ℕ, ◌+◌, List, length, ap, ap₂, sym, ◌∙◌, max, min, option_map, Task, flex_start, heap_start, flex_cards}
-use Rattle.rh_pictures.proofs.SheetCommon.{heap_cards}
-use Rattle.rh_pictures.proofs.SheetCommon.{Piece, SlotOf, count_of, Frame, Plot, Census, scene_at, flex-long, cards-long, from-first, owned, seen-slot}
+use Rattle.rh_pictures.proofs.Common.{◌≡◌, ℕ, ◌+◌, List, length, ap, ap₂, sym, ◌∙◌, max, min, option_map, Task, flex_start, heap_start, flex_cards, heap_cards}
+use Rattle.rh_pictures.proofs.Common.{Piece, SlotOf, count_of, Frame, Plot, Census, scene_at}
+use Rattle.rh_pictures.proofs.CardLemmas.{flex-long}
+use Rattle.rh_pictures.proofs.HeapLemmas.{cards-long, from-first}
+use Rattle.rh_pictures.proofs.PageLemmas.{owned, seen-slot}
 use Rattle.rh_figure.specs.Cards.{heap_card}
 use Rattle.rh_sheet.specs.SheetAreas.{rows_for}
 use Rattle.rh_sheet.specs.Owners.{task_class}

@@ -1,9 +1,11 @@
-use Rattle.rh_pictures.proofs.SheetCommon.{◌≡◌, ◌+◌, length, ap, refl, sym, ◌∙◌, arith, base, flex_start, heap_start, flex_cards, heap_cards, SlotOf}
-use Rattle.rh_pictures.proofs.SheetCommon.{Frame, Census, IsTaskSeen, scene_at, task-slot, items-long, few-blocks, flex-long, seen-same, cards-long, owned-few}
-use Rattle.rh_pictures.proofs.SheetCommon.{seen-slot, offered_as, IsSlotPlan}
+use Rattle.rh_pictures.proofs.Common.{◌≡◌, ◌+◌, length, ap, refl, sym, ◌∙◌, arith, base, flex_start, heap_start, flex_cards, heap_cards, SlotOf, Frame, Census}
+use Rattle.rh_pictures.proofs.Common.{IsTaskSeen, scene_at, task-slot, items-long, few-blocks, offered_as, IsSlotPlan}
+use Rattle.rh_pictures.proofs.CardLemmas.{flex-long}
+use Rattle.rh_pictures.proofs.DrawingLemmas.{seen-same}
+use Rattle.rh_pictures.proofs.HeapLemmas.{cards-long}
 use Rattle.rh_figure.specs.Cards.{heap_card}
 use Rattle.rh_scene.specs.declared.sight.PagesOf.TheVariants as pages
-use Rattle.rh_pictures.proofs.PageLemmas.{owned-slot}
+use Rattle.rh_pictures.proofs.PageLemmas.{owned-slot, owned-few, seen-slot}
 use Rattle.rh_pictures.proofs.LensLemmas.{above-same, below-same}
 use Rattle.rh_pictures.proofs.TextPuts.{text_then}
 use Rattle.rh_pictures.proofs.sheet.slots.print_lenses.Goals as goal

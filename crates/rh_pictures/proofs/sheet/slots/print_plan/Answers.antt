@@ -1,4 +1,5 @@
-use Rattle.rh_pictures.proofs.SheetCommon.{◌++◌, ap, ap₂, ◌∙◌, codes, figure_open, IsTaskSeen, scene_at, seen-same, offered_as, IsSlotPlan}
+use Rattle.rh_pictures.proofs.Common.{◌++◌, ap, ap₂, ◌∙◌, codes, figure_open, IsTaskSeen, scene_at, offered_as, IsSlotPlan}
+use Rattle.rh_pictures.proofs.DrawingLemmas.{seen-same}
 use Rattle.rh_sheet.specs.Frames.{frame_height}
 use Rattle.rh_pictures.proofs.TextPuts.{text_last, text_then}
 use Rattle.rh_pictures.proofs.sheet.slots.print_plan.Goals as goal

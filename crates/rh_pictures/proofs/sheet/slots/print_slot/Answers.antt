@@ -1,4 +1,5 @@
-use Rattle.rh_pictures.proofs.SheetCommon.{◌≡◌, ◌++◌, Bool, true, false, ap, sym, ◌∙◌, where_so, heading_text, IsTaskSeen, scene_at, seen-same, offered_as}
+use Rattle.rh_pictures.proofs.Common.{◌≡◌, ◌++◌, Bool, true, false, ap, sym, ◌∙◌, where_so, heading_text, IsTaskSeen, scene_at, offered_as}
+use Rattle.rh_pictures.proofs.DrawingLemmas.{seen-same}
 use Rattle.rh_figure.specs.Figure.{is_drawn, slot_note}
 use Rattle.rh_sheet.specs.SheetAreas.{slot_figure}
 use Rattle.rh_pictures.proofs.TextPuts.{text_last, text_then}

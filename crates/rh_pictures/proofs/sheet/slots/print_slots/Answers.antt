@@ -1,4 +1,4 @@
-use Rattle.rh_pictures.proofs.SheetCommon.{◌<◌, length, refl, arith, flat_map, slice_get_within, left_less, left_none, slot_part, scene_at}
+use Rattle.rh_pictures.proofs.Common.{◌<◌, length, refl, arith, flat_map, slice_get_within, left_less, left_none, slot_part, scene_at}
 use Rattle.rh_pictures.proofs.TextWalks.{text-none, text-some}
 use Rattle.rh_pictures.proofs.sheet.slots.print_slots.Goals as goal
 

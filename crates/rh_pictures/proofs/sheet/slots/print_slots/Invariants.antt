@@ -1,4 +1,4 @@
-use Rattle.rh_pictures.proofs.SheetCommon.{◌-◌, length, drop, flat_map, Left, slot_part, scene_at}
+use Rattle.rh_pictures.proofs.Common.{◌-◌, length, drop, flat_map, Left, slot_part, scene_at}
 use Rattle.rh_pictures.proofs.sheet.slots.print_slots.Given as goal
 
 -- the slots from the place on are left

@@ -1,4 +1,4 @@
-use Rattle.rh_pictures.proofs.SheetCommon.{ap, refl, ◌∙◌, BlockItem, left_less, left_none, ticks_text, offered_as}
+use Rattle.rh_pictures.proofs.Common.{ap, refl, ◌∙◌, BlockItem, left_less, left_none, ticks_text, offered_as}
 use Rattle.rh_sheet.specs.SheetAreas.{tick_text}
 use Rattle.rh_pictures.proofs.TextWalks.{text-at, text-end}
 use Rattle.rh_pictures.proofs.sheet.slots.print_ticks.Goals as goal

@@ -1,4 +1,4 @@
-use Rattle.rh_pictures.proofs.SheetCommon.{drop, Left, ticks_text}
+use Rattle.rh_pictures.proofs.Common.{drop, Left, ticks_text}
 use Rattle.rh_pictures.proofs.sheet.slots.print_ticks.Given as goal
 
 -- the blocks from the place on are left

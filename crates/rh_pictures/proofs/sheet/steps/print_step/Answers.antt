@@ -1,4 +1,4 @@
-use Rattle.rh_pictures.proofs.SheetCommon.{offered_as, scene_at}
+use Rattle.rh_pictures.proofs.Common.{offered_as, scene_at}
 use Rattle.rh_pictures.proofs.PrintLemmas.{step-as}
 use Rattle.rh_pictures.proofs.TextPuts.{text_then}
 use Rattle.rh_pictures.proofs.sheet.steps.print_step.Goals as goal

@@ -1,4 +1,4 @@
-use Rattle.rh_pictures.proofs.SheetCommon.{◌≡◌, true, sym, ◌∙◌, append_assoc, transfer_row, ins_of, outs_of, offered_as}
+use Rattle.rh_pictures.proofs.Common.{◌≡◌, true, sym, ◌∙◌, append_assoc, transfer_row, ins_of, outs_of, offered_as}
 use Rattle.rh_figure.specs.Figure.{transfers_of}
 use Rattle.rh_sheet.specs.Tables.{transfers_heading}
 use Rattle.rh_pictures.proofs.TableLemmas.{rows-some}

@@ -1,4 +1,4 @@
-use Rattle.rh_pictures.proofs.SheetCommon.{◌≡◌, ◌+◌, ◌∷◌, [], ◌++◌, List, ap, sym, ◌∙◌, arith, length, length-append, MessageArrow}
+use Rattle.rh_pictures.proofs.Common.{◌≡◌, ◌+◌, ◌∷◌, [], ◌++◌, List, ap, sym, ◌∙◌, arith, length, length-append, MessageArrow}
 use Rattle.std.proofs.lemmas.List.{nil_from_length}
 use Rattle.rh_pictures.specs.Inner.WaySteps.{with_step}
 use Rattle.rh_pictures.proofs.WayLemmas.{steps-are, with_steps, with_steps-last}

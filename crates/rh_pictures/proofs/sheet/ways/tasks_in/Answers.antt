@@ -1,4 +1,4 @@
-use Rattle.rh_pictures.proofs.SheetCommon.{◌≡◌, ◌+◌, ◌∷◌, [], ◌++◌, List, ap, sym, ◌∙◌, arith, length, length-append, inserted, MessageArrow}
+use Rattle.rh_pictures.proofs.Common.{◌≡◌, ◌+◌, ◌∷◌, [], ◌++◌, List, ap, sym, ◌∙◌, arith, length, length-append, inserted, MessageArrow}
 use Rattle.std.proofs.lemmas.List.{nil_from_length}
 use Rattle.rh_pictures.proofs.WayLemmas.{tasks-are, with_tasks, with_tasks-last}
 use Rattle.rh_pictures.proofs.sheet.ways.tasks_in.Goals as goal

@@ -1,4 +1,4 @@
-use Rattle.rh_pictures.proofs.SheetCommon.{◌≡◌, ◌≤◌, ◌*◌, length, take, arrows, arrows_seen}
+use Rattle.rh_pictures.proofs.Common.{◌≡◌, ◌≤◌, ◌*◌, length, take, arrows, arrows_seen}
 use Rattle.rh_pictures.proofs.sheet.ways.ways_of.Given as goal
 
 -- the arrows of the messages so far

@@ -1,7 +1,6 @@
 use Rattle.rh_pictures.proofs.Common.{◌≡◌, ℕ, ◌<◌, ◌≤◌, ◌++◌, Bool, true, false, List, [], ◌∷◌, Option, Some, None, length, take, get_or, ap, sym, subst, refl}
 use Rattle.rh_pictures.proofs.Common.{◌∙◌, arith, append-nil, IfSome, ◌==◌, flat_map, flat_map-append, length-append, length-take, BlockItem, item_with_anchor}
-use Rattle.rh_pictures.proofs.Common.{slide_of}
-use Rattle.rh_pictures.proofs.Common.{summary_of}
+use Rattle.rh_pictures.proofs.Common.{slide_of, summary_of}
 use Rattle.std.proofs.lemmas.List.{take_more}
 use Rattle.rh_defs.specs.Slot.{anchor_count}
 use Rattle.rh_figure.specs.Changes.{Slide}

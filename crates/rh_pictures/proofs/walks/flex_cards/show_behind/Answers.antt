@@ -1,5 +1,5 @@
-use Rattle.rh_pictures.proofs.Common.{◌≡◌, ◌<◌, ◌-◌, [], ◌∷◌, Some, length, ap, ap₂, sym, ◌∙◌, arith, slice_get, BlockItem, block_items, flex_start}
-use Rattle.rh_pictures.proofs.Common.{flex_cards, IsTaskSeen, scene_at}
+use Rattle.rh_pictures.proofs.Common.{◌≡◌, ◌<◌, ◌-◌, [], ◌∷◌, Some, length, ap, ap₂, sym, ◌∙◌, arith, slice_get, BlockItem, block_items, flex_start, flex_cards}
+use Rattle.rh_pictures.proofs.Common.{IsTaskSeen, scene_at}
 use Rattle.rh_pictures.proofs.CardLemmas.{flex-long, behind-are, flex-picked, flex-unpicked}
 use Rattle.rh_pictures.proofs.DrawingLemmas.{seen-same}
 use Rattle.rh_pictures.proofs.Walks.{offered_as}

@@ -1,5 +1,4 @@
-use Rattle.rh_pictures.proofs.Common.{◌≡◌, ◌<◌, Some, length, take, ap, sym, ◌∙◌, arith, slice_get, length-take, block_items, flex_start, flex_cards}
-use Rattle.rh_pictures.proofs.Common.{scene_at}
+use Rattle.rh_pictures.proofs.Common.{◌≡◌, ◌<◌, Some, length, take, ap, sym, ◌∙◌, arith, slice_get, length-take, block_items, flex_start, flex_cards, scene_at}
 use Rattle.rh_map.proofs.Left.{left_less, left_none, left_whole}
 use Rattle.rh_pictures.proofs.CardLemmas.{flex-long, card-at, get-front, cards-end, cards-some}
 use Rattle.rh_pictures.proofs.DrawingLemmas.{seen-same}

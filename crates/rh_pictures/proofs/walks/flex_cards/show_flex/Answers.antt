@@ -1,5 +1,4 @@
-use Rattle.rh_pictures.proofs.Common.{ℕ, List, [], ◌∷◌, length, take, ap, ap₂, refl, sym, ◌∙◌, arith, find, length-take, flex_start, IsTaskSeen}
-use Rattle.rh_pictures.proofs.Common.{scene_at}
+use Rattle.rh_pictures.proofs.Common.{ℕ, List, [], ◌∷◌, length, take, ap, ap₂, refl, sym, ◌∙◌, arith, find, length-take, flex_start, IsTaskSeen, scene_at}
 use Rattle.rh_pictures.proofs.DrawingLemmas.{seen-same}
 use Rattle.rh_pictures.proofs.Walks.{offered_as}
 use Rattle.rh_defs.specs.Records.{is_document, is_source}

@@ -1,6 +1,5 @@
 use Rattle.rh_pictures.proofs.Common.{◌≡◌, ℕ, ◌-◌, Option, Some, None, ap, refl, subst, sym, ◌∙◌, ◌==◌, find, Parcel, Scene, message_of_scene, MessageItem}
-use Rattle.rh_pictures.proofs.Common.{lies_in}
-use Rattle.rh_pictures.proofs.Common.{message_items, scene_at, is_fresh_card}
+use Rattle.rh_pictures.proofs.Common.{lies_in, message_items, scene_at, is_fresh_card}
 use Rattle.rh_pictures.specs.Inner.Surveys.{is_fresh_at, is_fresh_or_posted}
 use Rattle.rh_pictures.proofs.PostLemmas.{Told, message-told}
 use Rattle.rh_pictures.proofs.walks.heap_cards.is_fresh.Goals as goal

@@ -1,5 +1,5 @@
-use Rattle.rh_pictures.proofs.Common.{◌∙◌, ◌≤◌, length, take, ap, arith, slice_get, length-take, slice_get_within, heap_seen, heap_start_of, scene_at}
-use Rattle.rh_pictures.proofs.Common.{at-some, band_cards}
+use Rattle.rh_pictures.proofs.Common.{◌∙◌, ◌≤◌, length, take, ap, arith, slice_get, length-take, slice_get_within, heap_seen, heap_start_of, scene_at, at-some}
+use Rattle.rh_pictures.proofs.Common.{band_cards}
 use Rattle.rh_map.proofs.Left.{left_less, left_none, left_whole}
 use Rattle.rh_pictures.proofs.HeapLemmas.{from-first, if-heap, band-heap, got-is, in-band, told-here}
 use Rattle.rh_scene.proofs.Heaps.{comes-parts}

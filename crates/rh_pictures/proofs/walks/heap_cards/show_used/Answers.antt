@@ -1,5 +1,4 @@
-use Rattle.rh_pictures.proofs.Common.{◌≡◌, ℕ, ◌-◌, List, [], ◌∷◌, length, take, ap₂, sym, subst, ◌∙◌, arith, length-take, SeesBlock, heap_seen}
-use Rattle.rh_pictures.proofs.Common.{heap_start_of}
+use Rattle.rh_pictures.proofs.Common.{◌≡◌, ℕ, ◌-◌, List, [], ◌∷◌, length, take, ap₂, sym, subst, ◌∙◌, arith, length-take, SeesBlock, heap_seen, heap_start_of}
 use Rattle.rh_figure.specs.Cards.{used_card}
 use Rattle.rh_pictures.proofs.CardLemmas.{front-is}
 use Rattle.rh_pictures.proofs.Walks.{offered_as}

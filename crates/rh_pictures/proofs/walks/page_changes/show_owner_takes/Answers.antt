@@ -1,5 +1,5 @@
-use Rattle.rh_pictures.proofs.Common.{◌≡◌, ◌<◌, ◌≤◌, ◌-◌, length, drop, ap, ap₂, sym, ◌∙◌, arith, rules, length-drop, length-take, taken_line}
-use Rattle.rh_pictures.proofs.Common.{count_of, scene_at}
+use Rattle.rh_pictures.proofs.Common.{◌≡◌, ◌<◌, ◌≤◌, ◌-◌, length, drop, ap, ap₂, sym, ◌∙◌, arith, rules, length-drop, length-take, taken_line, count_of}
+use Rattle.rh_pictures.proofs.Common.{scene_at}
 use Rattle.std.proofs.lemmas.List.{take_rest}
 use Rattle.rh_pictures.proofs.OwnerLemmas.{owner-few, owner-pages}
 use Rattle.rh_pictures.proofs.PageLemmas.{takes-none, takes-one}

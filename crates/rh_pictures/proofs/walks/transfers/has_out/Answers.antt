@@ -1,5 +1,4 @@
-use Rattle.rh_pictures.proofs.Common.{◌≡◌, ℕ, ◌+◌, Bool, true, false, List, drop, ap, sym, refl, ◌∙◌, ◌==◌, flat_map}
-use Rattle.rh_pictures.proofs.Common.{list_any, Task, has_id}
+use Rattle.rh_pictures.proofs.Common.{◌≡◌, ℕ, ◌+◌, Bool, true, false, List, drop, ap, sym, refl, ◌∙◌, ◌==◌, flat_map, list_any, Task, has_id}
 use Rattle.rh_defs.specs.Records.{out_id}
 use Rattle.rh_pictures.proofs.TransferLemmas.{out-step, outs}
 use Rattle.rh_pictures.proofs.Walks.{walk-off, walk-on, walk-to}

@@ -1,5 +1,5 @@
-use Rattle.rh_pictures.proofs.Common.{◌≡◌, ℕ, ◌+◌, List, Option, Some, None, drop, ap, sym, refl, ◌∙◌, ◌==◌, find}
-use Rattle.rh_pictures.proofs.Common.{flat_map, option_map, Task, in_item, in_id, Side, has_id}
+use Rattle.rh_pictures.proofs.Common.{◌≡◌, ℕ, ◌+◌, List, Option, Some, None, drop, ap, sym, refl, ◌∙◌, ◌==◌, find, flat_map, option_map, Task, in_item, in_id}
+use Rattle.rh_pictures.proofs.Common.{Side, has_id}
 use Rattle.rh_pictures.proofs.TransferLemmas.{ins, side-told, side-untold}
 use Rattle.rh_pictures.proofs.Walks.{walk-off, walk-on, walk-to}
 use Rattle.rh_pictures.proofs.walks.transfers.in_side.Goals as goal

@@ -1,4 +1,4 @@
-use Rattle.rh_pictures.proofs.SheetCommon.{◌++◌, ap, form_text, offered_as, refl, size_text, sym, ◌∙◌}
+use Rattle.rh_pictures.proofs.Common.{◌++◌, ap, form_text, offered_as, refl, size_text, sym, ◌∙◌}
 use Rattle.rh_figure.specs.Cards.{FlexCard}
 use Rattle.rh_map.specs.MapCards.{use_text}
 use Rattle.rh_pictures.proofs.BandLemmas.{card-same, front-bytes}

@@ -1,4 +1,4 @@
-use Rattle.rh_pictures.proofs.SheetCommon.{ap, form_text, offered_as, refl, ◌∙◌}
+use Rattle.rh_pictures.proofs.Common.{ap, form_text, offered_as, refl, ◌∙◌}
 use Rattle.rh_figure.specs.Cards.{PostCard}
 use Rattle.rh_pictures.proofs.BandLemmas.{card-same}
 use Rattle.rh_pictures.proofs.sheet.bands.FormCardArtist.message_card.Goals as goal

@@ -1,4 +1,4 @@
-use Rattle.rh_pictures.proofs.SheetCommon.{◌∙◌}
+use Rattle.rh_pictures.proofs.Common.{◌∙◌}
 use Rattle.rh_pictures.proofs.SheetRunLemmas.{head-put}
 use Rattle.rh_pictures.proofs.sheet.painter.Painter.begin.Goals as goal
 

@@ -1,4 +1,4 @@
-use Rattle.rh_pictures.proofs.SheetCommon.{◌∙◌, ap, scene_of, noted, PaintStand}
+use Rattle.rh_pictures.proofs.Common.{◌∙◌, ap, scene_of, noted, PaintStand}
 use Rattle.rh_pictures.proofs.sheet.painter.Painter.begin_step.Goals as goal
 
 pub returns-clause-notes : goal.returns-clause-notes

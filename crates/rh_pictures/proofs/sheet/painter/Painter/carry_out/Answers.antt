@@ -1,4 +1,4 @@
-use Rattle.rh_pictures.proofs.SheetCommon.{refl, reply_to}
+use Rattle.rh_pictures.proofs.Common.{refl, reply_to}
 use Rattle.rh_pictures.proofs.SheetStepLemmas.{took-command}
 use Rattle.rh_pictures.proofs.sheet.painter.Painter.carry_out.Goals as goal
 

@@ -1,4 +1,4 @@
-use Rattle.rh_pictures.proofs.SheetCommon.{[], ◌∷◌, ap, ap₂, concat, offered_as, where_so, said_end, step_end}
+use Rattle.rh_pictures.proofs.Common.{[], ◌∷◌, ap, ap₂, concat, offered_as, where_so, said_end, step_end}
 use Rattle.rh_sheet.specs.Sheet.{sheet_foot}
 use Rattle.rh_pictures.proofs.TextPuts.{text_then}
 use Rattle.rh_pictures.proofs.sheet.painter.Painter.end.Goals as goal

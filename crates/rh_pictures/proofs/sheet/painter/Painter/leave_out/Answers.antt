@@ -1,4 +1,4 @@
-use Rattle.rh_pictures.proofs.SheetCommon.{ap, marks_of, Share, Happened, happened_at}
+use Rattle.rh_pictures.proofs.Common.{ap, marks_of, Share, Happened, happened_at}
 use Rattle.rh_pictures.proofs.ShareLemmas.{is_shared}
 use Rattle.rh_pictures.proofs.SheetStepLemmas.{IsNoted, took-left}
 use Rattle.rh_pictures.proofs.sheet.painter.Painter.leave_out.Goals as goal

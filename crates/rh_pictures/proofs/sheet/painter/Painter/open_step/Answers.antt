@@ -1,4 +1,4 @@
-use Rattle.rh_pictures.proofs.SheetCommon.{[], ◌+◌, ◌∙◌, ap, sym, if◌then◌else◌, offered_as}
+use Rattle.rh_pictures.proofs.Common.{[], ◌+◌, ◌∙◌, ap, sym, if◌then◌else◌, offered_as}
 use Rattle.rh_sheet.specs.SheetSteps.{step_open}
 use Rattle.rh_pictures.proofs.sheet.painter.Painter.open_step.Goals as goal
 

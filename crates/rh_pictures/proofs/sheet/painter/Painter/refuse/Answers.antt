@@ -1,4 +1,4 @@
-use Rattle.rh_pictures.proofs.SheetCommon.{refl, true, None, fault_text}
+use Rattle.rh_pictures.proofs.Common.{refl, true, None, fault_text}
 use Rattle.rh_defs.specs.declared.reply.Reply.TheVariants.{Done}
 use Rattle.rh_pictures.proofs.SheetStepLemmas.{took-fault}
 use Rattle.rh_pictures.proofs.sheet.painter.Painter.refuse.Goals as goal

@@ -1,4 +1,4 @@
-use Rattle.rh_pictures.proofs.SheetCommon.{◌∙◌, List, ℕ, ap, ap₂, refl, subst, sym, ◌&&◌, not, offered_as, scene_of, step_text, scene_at}
+use Rattle.rh_pictures.proofs.Common.{◌∙◌, List, ℕ, ap, ap₂, refl, subst, sym, ◌&&◌, not, offered_as, scene_of, step_text, scene_at}
 use Rattle.rh_pictures.specs.DrawnReplies.{Excerpts}
 use Rattle.rh_scene.specs.SightPages.{share_in}
 use Rattle.rh_scene.specs.Steps.{marks_seen}

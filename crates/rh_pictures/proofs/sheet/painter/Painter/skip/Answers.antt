@@ -1,5 +1,5 @@
-use Rattle.rh_pictures.proofs.SheetCommon.{[], ◌≡◌, ◌+◌, ◌∙◌, ◌||◌, ap, ap₂, false, length, refl, sym, true, ◌&&◌, ◌==◌, if◌then◌else◌, nat_lt, not, offered_as}
-use Rattle.rh_pictures.proofs.SheetCommon.{PaintStand, walk_in}
+use Rattle.rh_pictures.proofs.Common.{[], ◌≡◌, ◌+◌, ◌∙◌, ◌||◌, ap, ap₂, false, length, refl, sym, true, ◌&&◌, ◌==◌, if◌then◌else◌, nat_lt, not, offered_as}
+use Rattle.rh_pictures.proofs.Common.{PaintStand, walk_in}
 use Rattle.rh_defs.specs.Line.{words_of}
 use Rattle.rh_pictures.proofs.ShareLemmas.{is_shared}
 use Rattle.rh_figure.specs.Map.{is_mark}

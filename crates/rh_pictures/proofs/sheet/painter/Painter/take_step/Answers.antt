@@ -1,4 +1,4 @@
-use Rattle.rh_pictures.proofs.SheetCommon.{List, ℕ, ap, subst, sym, option_map, marks_of, Share, Happened, happened_at}
+use Rattle.rh_pictures.proofs.Common.{List, ℕ, ap, subst, sym, option_map, marks_of, Share, Happened, happened_at}
 use Rattle.rh_pictures.specs.DrawnReplies.{Excerpts}
 use Rattle.rh_map.specs.Replies.{front_of}
 use Rattle.rh_pictures.proofs.SheetStepLemmas.{IsNoted, took-shown, wrote-over}
