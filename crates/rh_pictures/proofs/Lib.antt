@@ -1,5 +1,5 @@
 pub mod ShareLemmas
-pub mod ReadLemmas
+pub mod ScriptLemmas
 pub mod MapLemmas
 pub mod Walks
 pub mod TextWalks
@@ -25,7 +25,6 @@ pub mod SlotLemmas
 pub mod LensLemmas
 pub mod OwnerLemmas
 mod WalkLemmas
-mod LineLemmas
 mod SheetLemmas
 mod SheetRunLemmas
 mod NumberLemmas

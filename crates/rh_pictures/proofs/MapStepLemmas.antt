@@ -12,19 +12,10 @@ use Rattle.rh_figure.proofs.Alike.{marks-alike, scene-alike}
 use Rattle.rh_pictures.specs.Deeds.{IsLikeReply, rest_means}
 use Rattle.rh_pictures.specs.DrawnPlaces.{TookRest}
 use Rattle.rh_pictures.specs.Inner.StepsShown.{IsSamePlace, Offers, lines_of_step}
-use Rattle.rh_pictures.proofs.MapLemmas.{shared_alike}
-use Rattle.rh_pictures.proofs.ReadLemmas.{same_read}
-use Rattle.rh_pictures.proofs.MapRunLemmas.{kept_some, rest_bad, same_rest}
+use Rattle.rh_pictures.proofs.MapLemmas.{map-telling}
+use Rattle.rh_pictures.proofs.ScriptLemmas.{kept-first, or-off, or-on, reordered-as, rest-bad, same-line, same-rest, shared-alike}
 
 -- ---- tests
-
-or-off : (b : Bool) → b ≡ (b || false)
-or-off true = refl
-or-off false = refl
-
-or-on : (b : Bool) → true ≡ (b || true)
-or-on true = refl
-or-on false = refl
 
 -- a step that is shown, and one that isn't
 pub is-hidden : (marked wanted : Bool) → (marked && not wanted) ≡ true → (not marked || wanted) ≡ false
@@ -57,12 +48,6 @@ when-off xs e = ap (λ (q : Bool). if q then xs else []) e
 
 when-on : {b : Bool} {xs : List Text} → b ≡ true → (if b then xs else []) ≡ xs
 when-on {xs = xs} e = ap (λ (q : Bool). if q then xs else []) e
-
-pub reordered-same : (d : Desk) → IsReordered d d
-reordered-same d = record { same = record { each = λ h. refl }; rest = refl }
-
-reordered-as : {D : Type 0} (desk : D → Desk) (a b : D) → b ≡ a → IsReordered (desk a) (desk b)
-reordered-as desk a b e = let P : Desk → Type 0 = λ z. IsReordered (desk a) z in subst P (ap desk (sym e)) (reordered-same (desk a))
 
 shared-as : {D : Type 0} (desk : D → Desk) (s : Share) (a b : D) → b ≡ a → IsShared s (desk b) → IsShared s (desk a)
 shared-as desk s a b e h = let P : Desk → Type 0 = λ z. IsShared s z in subst P (ap desk e) h
@@ -104,7 +89,7 @@ module _ {D : Type 0} (desk : D → Desk) (m : Mapper D) (line : Text) (old : Li
       → new ≡ old ++ written_lines (lines_of_read m.marked s (place_in desk m) (line, Ok (Some c))) → Offers desk m line (Ok (Some c)) n old new
   offers-command c n new s is shared marked steps wanted bad offered = record {
     share = s;
-    shared = shared_alike s is shared;
+    shared = shared-alike s is shared;
     offered = offered;
     follows = record {
       desk_is = is;
@@ -137,16 +122,18 @@ module _ {D : Type 0} (desk : D → Desk) (m : Mapper D) (line : Text) (old : Li
 module _ {D : Type 0} {desk : D → Desk} {m n : Mapper D} {old new : List ℕ} where
   -- the same of another line, of which the same is shown
   offers-as : {a b : Text} {of_a of_b : Meaning (Option Command)}
-      → ((s : Share) → lines_of_read m.marked s (place_in desk m) (b, of_b) ≡ lines_of_read m.marked s (place_in desk m) (a, of_a))
-      → after_read (place_in desk m) (b, of_b) ≡ after_read (place_in desk m) (a, of_a) → is_err of_b ≡ is_err of_a
+      → ((s : Share) → written_lines (lines_of_read m.marked s (place_in desk m) (b, of_b))
+      ≡ written_lines (lines_of_read m.marked s (place_in desk m) (a, of_a)))
+      → ((s : Share) → after_read (place_in desk m) (b, of_b) ≡ after_read (place_in desk m) (a, of_a)) → is_err of_b ≡ is_err of_a
       → Offers desk m a of_a n old new → Offers desk m b of_b n old new
-  offers-as lines after bad offers =
+  offers-as text behind bad offers =
       let S : Place → Type 0 = λ z. IsShared offers.share z.desk in
       let R : Place → Type 0 = λ z. IsReordered z.desk (desk n.drawn) in
+      let after = behind offers.share in
       record {
         share = offers.share;
         shared = subst S (sym after) offers.shared;
-        offered = offers.offered ∙ ap (λ z. old ++ written_lines z) (sym (lines offers.share));
+        offered = offers.offered ∙ ap (λ z. old ++ z) (sym (text offers.share));
         follows = record {
           desk_is = subst R (sym after) offers.follows.desk_is;
           marked_is = offers.follows.marked_is;
@@ -158,13 +145,13 @@ module _ {D : Type 0} {desk : D → Desk} {m n : Mapper D} {old new : List ℕ} 
 
   pub offers-kept : (line : Text) → Offers desk m line (line_means line) n old new → Offers desk m (kept line) (line_means (kept line)) n old new
   offers-kept line =
-      let same = same_read line in
-      offers-as (λ s. same.lines m.marked s (place_in desk m)) (same.after (place_in desk m)) (ap is_err (kept_means line))
+      let same = same-line (map-telling m.marked) line in
+      offers-as (λ s. same.text s (place_in desk m)) (λ s. same.behind s (place_in desk m)) (ap is_err (kept_means line))
 
   pub offers-rest : (rest : Text) → Offers desk m rest (rest_means rest) n old new → Offers desk m (kept rest) (rest_means (kept rest)) n old new
   offers-rest rest =
-      let same = same_rest rest in
-      offers-as (λ s. same.lines m.marked s (place_in desk m)) (same.after (place_in desk m)) (same.bad ∙ sym (rest_bad rest))
+      let same = same-rest (map-telling m.marked) rest in
+      offers-as (λ s. same.text s (place_in desk m)) (λ s. same.behind s (place_in desk m)) (rest-bad (kept rest) ∙ sym (rest-bad rest))
 
   -- the text that was offered
   offers-text : {line : Text} {means : Meaning (Option Command)} → Offers desk m line means n old new → Gives (Drew desk m line means n) old new
@@ -188,7 +175,7 @@ module _ {D : Type 0} {desk : D → Desk} {m n : Mapper D} {old new : List ℕ} 
       let all = offers-text (offers-rest (b ∷ bs) offers) in
       let K : Text → Type 0 = λ z. Drew desk m z (rest_means z) n all.text in
       let T : Text → Type 0 = λ z. TookRest desk m z n all.text in
-      record { text = all.text; told = subst T (sym (kept_some b bs)) (subst K (kept_some b bs) all.told); offered = all.offered }
+      record { text = all.text; told = subst T (sym (kept-first b bs)) (subst K (kept-first b bs) all.told); offered = all.offered }
 
 -- nothing stands there
 pub rest-none : {D : Type 0} (desk : D → Desk) (m : Mapper D) (old : List ℕ) (rest : Text) → true ≡ (length rest == 0)

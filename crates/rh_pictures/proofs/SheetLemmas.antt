@@ -1,180 +1,99 @@
--- A sheet from the lines that were taken, one after the other.
-use Rattle.rh_pictures.proofs.Common.{◌≡◌, Bool, true, false, ◌||◌, List, [], ◌∷◌, ◌++◌, map, refl, sym, ap, ap₂, ◌∙◌, subst, append-nil, append_assoc, Option}
-use Rattle.rh_pictures.proofs.Common.{is_err, list_any, Command, Meaning, line_means, Desk, kept, kept_means, Share, IsShared, Text, Place, Read, Stage}
-use Rattle.rh_pictures.proofs.Common.{after_read, AreShared, Walk, behind_read, read_text, sheet_lines, Painter, PaintedLine, TookPaintedLine}
-use Rattle.rh_defs.specs.Script.{is_bad}
-use Rattle.rh_session.specs.Taken.{TookAll}
-use Rattle.rh_figure.specs.Map.{read_line}
-use Rattle.rh_figure.specs.Whole.{read_of}
-use Rattle.rh_pictures.proofs.MapLemmas.{after_reads, is_bad_read}
+-- How a sheet shows a line of its script, and what a painter has taken.
+use Rattle.rh_pictures.proofs.Common.{◌≡◌, ℕ, ◌<◌, zero, suc, Bool, true, false, List, [], ◌∷◌, ◌++◌, length, length-map, take, map, refl, sym, ap, ◌∙◌}
+use Rattle.rh_pictures.proofs.Common.{append_assoc, arith, codes, ◌+◌, ◌&&◌, not, concat, decimal, Err, TooLong, Desk, kept, Share, Text, cut}
+use Rattle.rh_pictures.proofs.Common.{where_so, changes, Scene, noted, Note, escape, changes_text, figure_text, said_end, step_end, step_text, Happened, Walk, behind_read}
+use Rattle.rh_pictures.proofs.Common.{fault_happened, happened_text, read_text, sheet_lines, read_line, Stage, Painter, TookPaintedLine}
+use Rattle.rh_defs.specs.Line.{longest_line}
+use Rattle.rh_figure.specs.Map.{shown_byte}
+use Rattle.rh_figure.specs.declared.limits.TheConstants.{LINE_COLUMNS}
+use Rattle.rh_sheet.specs.SheetSteps.{command_text, reply_shown, said_text, still_text}
+use Rattle.rh_sheet.specs.Sheet.{is_shown, opening, sheet_end}
 use Rattle.rh_pictures.specs.Painted.{front_lines}
-use Rattle.rh_pictures.proofs.LineLemmas.{same-line}
-use Rattle.rh_pictures.proofs.WalkLemmas.{Stands, place-behind, shared-there, stands-on, text-there}
+use Rattle.rh_pictures.specs.PaintedWalks.{TookPaintedRest}
+use Rattle.rh_pictures.proofs.ScriptLemmas.{One, TakenRest, Telling, behind-all, cut-kept, text-of-all, text-to-end}
+use Rattle.rh_pictures.proofs.WalkLemmas.{Stands, all-there, place-behind, rest-there, shared-there, stands-on, text-there}
 
--- ---- lines, and lines behind them
+-- ---- a line that is too long
 
--- where a sheet stands behind some lines
-abbrev pub walk_behind : Bool → Walk → List Stage → Walk
-walk_behind marked x [] = x
-walk_behind marked x ((r, s) ∷ rest) = walk_behind marked (behind_read marked s x r) rest
+map-take : (f : ℕ → ℕ) (n : ℕ) (xs : List ℕ) → map f (take n xs) ≡ take n (map f xs)
+map-take f zero xs = refl
+map-take f (suc n) [] = refl
+map-take f (suc n) (x ∷ xs) = ap (λ z. f x ∷ z) (map-take f n xs)
 
-pub place-after : (marked : Bool) (x : Walk) (xs : List Stage) → (walk_behind marked x xs).place ≡ after_reads x.place (map read_of xs)
-place-after marked x [] = refl
-place-after marked x ((r, s) ∷ rest) =
-    place-after marked (behind_read marked s x r) rest ∙ ap (λ p. after_reads p (map read_of rest)) (place-behind marked s x r)
+command-kept : (line : Text) → longest_line < length line → command_text (kept line) ≡ command_text line
+unfolding kept
+command-kept line long =
+    ap (cut LINE_COLUMNS) (map-take shown_byte (longest_line + 1) line)
+    ∙ cut-kept (map shown_byte line) (omega (arith, length-map line shown_byte, long))
 
--- lines to the end of a sheet
-pub lines-split : (marked : Bool) (x : Walk) (xs ys : List Stage)
-    → sheet_lines marked x (xs ++ ys) ≡ front_lines marked x xs ++ sheet_lines marked (walk_behind marked x xs) ys
-lines-split marked x [] ys = refl
-lines-split marked x ((r, s) ∷ rest) ys =
-    ap (λ t. read_text marked s x r ++ t) (lines-split marked (behind_read marked s x r) rest ys)
-    ∙ sym (append_assoc (read_text marked s x r) (front_lines marked (behind_read marked s x r) rest)
-    (sheet_lines marked (walk_behind marked (behind_read marked s x r) rest) ys))
+module _ (line : Text) (long : longest_line < length line) where
+  said-kept : (n : ℕ) (reply : Text) → said_text n (kept line) reply ≡ said_text n line reply
+  said-kept n reply = ap (λ shown. concat (
+      concat (codes "<h2><b>" ∷ decimal n ∷ codes "</b> <code>" ∷ escape shown ∷ codes "</code></h2>\n<pre>" ∷ [])
+      ∷ escape (reply_shown reply) ∷ codes "</pre>\n" ∷ []
+      )) (command-kept line long)
 
--- one line more
-pub lines-last : (marked : Bool) (x : Walk) (xs : List Stage) (r : Read) (s : Share)
-    → front_lines marked x (xs ++ (r, s) ∷ []) ≡ front_lines marked x xs ++ read_text marked s (walk_behind marked x xs) r
-lines-last marked x [] r s = append-nil (read_text marked s x r)
-lines-last marked x ((q, u) ∷ rest) r s =
-    ap (λ t. read_text marked u x q ++ t) (lines-last marked (behind_read marked u x q) rest r s)
-    ∙ sym (append_assoc (read_text marked u x q) (front_lines marked (behind_read marked u x q) rest)
-    (read_text marked s (walk_behind marked (behind_read marked u x q) rest) r))
+  step-kept : (still : Bool) (n : ℕ) (reply : Text) (x : Scene) (notes : List Note) (last : ℕ)
+      → step_text still n (kept line) reply x notes last ≡ step_text still n line reply x notes last
+  step-kept true n reply x notes last =
+      ap (λ said. concat (said ∷ still_text last ∷ said_end ∷ step_end ∷ [])) (said-kept n reply)
+  step-kept false n reply x notes last =
+      ap (λ said. concat (said ∷ changes_text (changes x) ∷ said_end ∷ figure_text x notes n ∷ step_end ∷ [])) (said-kept n reply)
 
-pub shared-more : (p : Place) (xs ys : List Stage) → AreShared p xs → AreShared (after_reads p (map read_of xs)) ys → AreShared p (xs ++ ys)
-shared-more p [] ys a b = b
-shared-more p ((q, u) ∷ rest) ys a b = (a.0, shared-more (after_read p q) rest ys a.1 b)
+  happened-kept : (marked : Bool) (x : Walk) (h : Happened) → happened_text marked x (kept line) h ≡ happened_text marked x line h
+  happened-kept marked x h =
+      ap (λ text. where_so (is_shown marked x x.place.wanted) (opening x ++ text))
+      (step-kept (h.still && not x.place.wanted) (x.place.steps + 1) h.reply h.scene (noted (x.place.steps + 1) h.scene x.notes) x.last)
 
--- ---- lines that a painter has taken
+-- ---- how a sheet shows a line
 
--- a text is what a sheet has of some lines, and a painter stands behind them
-pub record PaintedAll {D : Type 0} (desk : D → Desk) (marked : Bool) (x : Walk) (reads : List Read) (bad : Bool) (n : Painter D) (text : Text) : Type 0 where
-  pub stages : List Stage
-  pub lines : map read_of stages ≡ reads
-  pub shared : AreShared x.place stages
-  pub text_is : text ≡ front_lines marked x stages
-  pub stands : Stands desk marked (walk_behind marked x stages) n
-  pub bad_is : n.has_bad_line ≡ (bad || list_any is_bad_read reads)
-
-or-false : (b : Bool) → (b || false) ≡ b
-or-false true = refl
-or-false false = refl
-
-either-first : (a b c : Bool) → ((a || b) || c) ≡ (a || (b || c))
-either-first true b c = refl
-either-first false b c = refl
-
-painted-none : {D : Type 0} {desk : D → Desk} {marked : Bool} {x : Walk} {m : Painter D} → Stands desk marked x m
-    → PaintedAll desk marked x [] m.has_bad_line m []
-painted-none {m = m} is = record {
-  stages = [];
-  lines = refl;
-  shared = tt;
-  text_is = refl;
-  stands = is;
-  bad_is = sym (or-false m.has_bad_line);
+abbrev pub sheet-telling : Bool → Telling Walk
+sheet-telling marked = record {
+  place_of = λ x. x.place;
+  text_of = λ s x r. read_text marked s x r;
+  behind = λ s x r. behind_read marked s x r;
+  leads = place-behind marked;
+  long_text = λ line long s x. happened-kept line long marked x (fault_happened s TooLong x.place.desk);
+  long_behind = λ line s x. refl;
 }
 
-painted-more : {D : Type 0} {desk : D → Desk} {marked : Bool} {x : Walk} {m n l : Painter D} {a b : Text} (line : Text)
-    (meaning : Meaning (Option Command)) (reads : List Read) → Stands desk marked x m → (here : PaintedLine desk m line meaning n a)
-    → PaintedAll desk marked (behind_read marked here.share x (line, meaning)) reads n.has_bad_line l b
-    → PaintedAll desk marked x ((line, meaning) ∷ reads) m.has_bad_line l (a ++ b)
-painted-more {marked = marked} {x = x} {m = m} line meaning reads is here rest =
-    let r : Read = (line, meaning) in
-    let P : Place → Type 0 = λ z. AreShared z rest.stages in
-    record {
-      stages = (r, here.share) ∷ rest.stages;
-      lines = ap (λ rs. r ∷ rs) rest.lines;
-      shared = (shared-there is here.share r here.shared, subst P (place-behind marked here.share x r) rest.shared);
-      text_is = ap₂ (λ x y. x ++ y) (here.text_is ∙ text-there is here.share r) rest.text_is;
-      stands = rest.stands;
-      bad_is = rest.bad_is ∙ (ap (λ b. b || list_any is_bad_read reads) here.follows.bad
-          ∙ either-first m.has_bad_line (is_err meaning) (list_any is_bad_read reads));
-    }
+-- what is written of lines is what the sheet has of them, to its end and without
+pub front-text : (marked : Bool) (x : Walk) (stages : List Stage) → text-of-all (sheet-telling marked) x stages ≡ front_lines marked x stages
+front-text marked x [] = refl
+front-text marked x ((r, s) ∷ rest) = ap (λ z. read_text marked s x r ++ z) (front-text marked (behind_read marked s x r) rest)
 
--- all lines that were taken, as far as they are kept
-took-kept : {D : Type 0} {desk : D → Desk} {marked : Bool} (x : Walk) {m n : Painter D} {text : Text} (lines : List Text) → Stands desk marked x m
-    → TookAll (TookPaintedLine desk) m lines n text → PaintedAll desk marked x (map read_line lines) m.has_bad_line n text
-took-kept {D} {desk} {marked} x {m} {n} {text} [] is (a, b) =
-    let P : Painter D → Type 0 = λ z. PaintedAll desk marked x [] m.has_bad_line z text in
-    let Q : Text → Type 0 = λ z. PaintedAll desk marked x [] m.has_bad_line m z in
-    subst P a (subst Q (sym b) (painted-none is))
-took-kept {D} {desk} {marked} x {m} {n} {text} (line ∷ lines) is (k, a, b, one, rest, e) =
-    let Q : Text → Type 0 = λ z. PaintedAll desk marked x (map read_line (line ∷ lines)) m.has_bad_line n z in
-    subst Q (sym e) (painted-more line (line_means line) (map read_line lines) is one
-    (took-kept (behind_read marked one.share x (read_line line)) lines (stands-on is one.share (read_line line) one.follows) rest))
+pub end-text : (marked : Bool) (x : Walk) (stages : List Stage) → text-to-end (sheet-telling marked) sheet_end x stages ≡ sheet_lines marked x stages
+end-text marked x [] = refl
+end-text marked x ((r, s) ∷ rest) =
+    let y = behind_read marked s x r in
+    append_assoc (read_text marked s x r) (text-of-all (sheet-telling marked) y rest) (sheet_end (behind-all (sheet-telling marked) y rest))
+    ∙ ap (λ z. read_text marked s x r ++ z) (end-text marked y rest)
 
--- ---- the lines themselves, not only as far as they are kept
+-- ---- what a painter has taken
 
--- the same lines and shares, each line whole
-abbrev whole_stages : List Text → List Stage → List Stage
-whole_stages [] stages = []
-whole_stages (l ∷ ls) [] = []
-whole_stages (l ∷ ls) ((r, s) ∷ stages) = (read_line l, s) ∷ whole_stages ls stages
+-- whether a line was bad so far
+abbrev pub was-bad : {D : Type 0} → Painter D → Bool
+was-bad m = m.has_bad_line
 
-pub stage-is : (r q : Read) (s : Share) (stages : List Stage) (reads : List Read) → map read_of ((r, s) ∷ stages) ≡ q ∷ reads
-    → (r ≡ q) × (map read_of stages ≡ reads)
-stage-is r q s stages reads e = (ap first_read e, ap rest_reads e)
-  where
-    first_read : List Read → Read
-    first_read [] = r
-    first_read (y ∷ ys) = y
+module _ {D : Type 0} (desk : D → Desk) (marked : Bool) where
+  -- a line
+  pub took-one : (x : Walk) (line : Text) (m n : Painter D) (text : Text) → Stands desk marked x m → TookPaintedLine desk m line n text
+      → One (sheet-telling marked) (Stands desk marked) was-bad x (read_line line) m n text
+  took-one x line m n text is here = record {
+    share = here.share;
+    shared = shared-there is here.share (read_line line) here.shared;
+    text_is = here.text_is ∙ text-there is here.share (read_line line);
+    stands_on = stands-on is here.share (read_line line) here.follows;
+    bad_is = here.follows.bad;
+  }
 
-    rest_reads : List Read → List Read
-    rest_reads [] = []
-    rest_reads (y ∷ ys) = ys
-
-record Wholes (marked : Bool) (x : Walk) (lines : List Text) (stages : List Stage) : Type 0 where
-  reads : map read_of (whole_stages lines stages) ≡ map read_line lines
-  shared : AreShared x.place (whole_stages lines stages)
-  text : front_lines marked x (whole_stages lines stages) ≡ front_lines marked x stages
-  after : walk_behind marked x (whole_stages lines stages) ≡ walk_behind marked x stages
-
-wholes : (marked : Bool) (x : Walk) (lines : List Text) (stages : List Stage) → map read_of stages ≡ map read_line (map kept lines) → AreShared x.place stages
-    → Wholes marked x lines stages
-wholes marked x [] [] e shared = record { reads = refl; shared = tt; text = refl; after = refl }
-wholes marked x [] (y ∷ stages) e shared = absurd (cc)
-wholes marked x (l ∷ ls) [] e shared = absurd (cc)
-wholes marked x (l ∷ ls) ((r, s) ∷ stages) e shared =
-    let parts = stage-is r (read_line (kept l)) s stages (map read_line (map kept ls)) e in
-    let same = same-line l in
-    let here : behind_read marked s x r ≡ behind_read marked s x (read_line l) = ap (behind_read marked s x) parts.0 ∙ same.behind marked s x in
-    let there : after_read x.place r ≡ after_read x.place (read_line l) =
-    sym (place-behind marked s x r) ∙ (ap (λ (w : Walk). w.place) here ∙ place-behind marked s x (read_line l)) in
-    let P : Place → Type 0 = λ z. AreShared z stages in
-    let Q : Place → Type 0 = λ z. IsShared s z.desk in
-    let R : Place → Type 0 = λ z. AreShared z (whole_stages ls stages) in
-    let rest = wholes marked (behind_read marked s x (read_line l)) ls stages parts.1
-    (subst P (sym (ap (λ (w : Walk). w.place) (sym here) ∙ place-behind marked s x r)) shared.1) in
-    record {
-      reads = ap (λ rs. read_line l ∷ rs) rest.reads;
-      shared = (subst Q there shared.0, subst R (place-behind marked s x (read_line l)) rest.shared);
-      text = ap₂ (λ a b. a ++ b) (sym (same.text marked s x) ∙ sym (ap (read_text marked s x) parts.0))
-          (rest.text ∙ ap (λ w. front_lines marked w stages) (sym here));
-      after = rest.after ∙ ap (λ w. walk_behind marked w stages) (sym here);
-    }
-
--- a line is bad just where what is kept of it is
-bad-kept : (lines : List Text) → list_any is_bad_read (map read_line (map kept lines)) ≡ list_any is_bad lines
-bad-kept [] = refl
-bad-kept (l ∷ ls) = ap₂ (λ a b. a || b) (ap is_err (kept_means l)) (bad-kept ls)
-
-pub bad-lines : (lines : List Text) → list_any is_bad_read (map read_line lines) ≡ list_any is_bad lines
-bad-lines [] = refl
-bad-lines (l ∷ ls) = ap (λ b. is_bad l || b) (bad-lines ls)
-
--- all lines that were taken, each whole
-pub took-lines : {D : Type 0} {desk : D → Desk} {marked : Bool} {x : Walk} {m n : Painter D} {text : Text} (lines : List Text) → Stands desk marked x m
-    → TookAll (TookPaintedLine desk) m (map kept lines) n text → PaintedAll desk marked x (map read_line lines) m.has_bad_line n text
-took-lines {D} {desk} {marked} {x} {m} {n} lines is took =
-    let painted = took-kept x (map kept lines) is took in
-    let whole = wholes marked x lines painted.stages painted.lines painted.shared in
-    let Q : Walk → Type 0 = λ z. Stands desk marked z n in
-    record {
-      stages = whole_stages lines painted.stages;
-      lines = whole.reads;
-      shared = whole.shared;
-      text_is = painted.text_is ∙ sym whole.text;
-      stands = subst Q (sym whole.after) painted.stands;
-      bad_is = painted.bad_is ∙ ap (λ b. m.has_bad_line || b) (bad-kept lines ∙ sym (bad-lines lines));
-    }
+  -- what stands behind the last line feed, and the sheet's end
+  pub took-end : (x : Walk) (rest : Text) (m n : Painter D) (text : Text) → Stands desk marked x m → TookPaintedRest desk m rest n text
+      → TakenRest (sheet-telling marked) sheet_end was-bad x rest m n text
+  took-end x rest m n text is last = record {
+    stages = last.stages;
+    lines = last.lines;
+    shared = all-there is last.stages last.shared;
+    text_is = last.text_is ∙ (rest-there is last.stages ∙ sym (end-text marked x last.stages));
+    bad_is = last.bad;
+  }

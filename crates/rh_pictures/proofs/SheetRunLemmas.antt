@@ -1,16 +1,10 @@
 -- A whole sheet, from the lines that were taken.
-use Rattle.rh_pictures.proofs.Common.{◌≡◌, ◌⊎◌, inl, inr, ℕ, Bool, true, false, ◌||◌, List, [], ◌∷◌, ◌++◌, length, map, take, refl, sym, ap, ap₂, ◌∙◌, subst}
-use Rattle.rh_pictures.proofs.Common.{append-nil, arith, Err, Ok, Result, is_err, not, ◌==◌, list_any, ne_eqb, Desk, IsReordered, rest_means, kept, IsShared}
-use Rattle.rh_pictures.proofs.Common.{Text, Place, Read, Stage, after_read, AreShared, Output, Takes, Breaks, Puts, takes_more, Walk, behind_read, read_text}
-use Rattle.rh_pictures.proofs.Common.{sheet_lines, Painter, TookPaintedLine}
+use Rattle.rh_pictures.proofs.Common.{◌≡◌, ◌⊎◌, inl, inr, ℕ, Bool, true, false, List, [], ◌++◌, map, refl, sym, ap, ap₂, ◌∙◌, subst, append-nil, map-append}
+use Rattle.rh_pictures.proofs.Common.{Err, Ok, Result, is_err, Desk, IsReordered, ended, kept, Text, read_line, Output, Takes, Breaks, Puts, takes_more}
+use Rattle.rh_pictures.proofs.Common.{Painter, TookPaintedLine}
 use Rattle.std.specs.Io.KnownBytes.{Consumes, IsAtEnd}
-use Rattle.std.proofs.lemmas.List.{map-append}
-use Rattle.rh_defs.specs.Script.{ended, has_bad_line, is_bad, unended}
-use Rattle.rh_pictures.proofs.MapRunLemmas.{kept_some}
 use Rattle.rh_session.specs.Taken.{Fed, FedAll, FedUntil, TookAll, TookFront, TookScript}
-use Rattle.rh_session.proofs.LineLemmas.{kept_nil}
-use Rattle.rh_figure.specs.Map.{read_ended, read_line, read_lines, read_rest}
-use Rattle.rh_figure.specs.Whole.{read_of}
+use Rattle.rh_figure.specs.Map.{read_ended, read_lines}
 use Rattle.rh_lines.specs.Flow.{Input}
 use Rattle.rh_lines.proofs.FlowLemmas.{takes_breaks}
 use Rattle.rh_session.specs.Outcome.{status_of}
@@ -20,52 +14,9 @@ use Rattle.rh_pictures.specs.Inner.Heads.{head_of}
 use Rattle.rh_pictures.specs.Painted as run
 use Rattle.rh_pictures.specs.Painted.{IsBegun, IsSheet, IsSheetFront, PaintedSoFar, PaintedUntil}
 use Rattle.rh_pictures.specs.PaintedWalks.{IsFirstPainted, TookPaintedRest, walk_at, walk_from}
-use Rattle.rh_pictures.proofs.LineLemmas.{same-rest}
-use Rattle.rh_pictures.proofs.SheetLemmas.{bad-lines, lines-split, place-after, shared-more, stage-is, took-lines, walk_behind}
-use Rattle.rh_pictures.proofs.WalkLemmas.{Stands, all-there, place-behind, rest-there}
-
--- ---- what stands behind the last line feed
-
--- the same stages, with all of it
-record WholeRest (marked : Bool) (x : Walk) (rest : List ℕ) (stages : List Stage) : Type 0 where
-  whole : List Stage
-  lines : map read_of whole ≡ read_rest rest
-  shared : AreShared x.place whole
-  text : sheet_lines marked x whole ≡ sheet_lines marked x stages
-
-whole-line : (marked : Bool) (x : Walk) (b : ℕ) (bs : List ℕ) (stages : List Stage)
-    → map read_of stages ≡ (kept (b ∷ bs), rest_means (kept (b ∷ bs))) ∷ [] → AreShared x.place stages → WholeRest marked x (b ∷ bs) stages
-whole-line marked x b bs [] e shared = absurd (cc)
-whole-line marked x b bs ((r, s) ∷ y ∷ more) e shared = absurd (cc)
-whole-line marked x b bs ((r, s) ∷ []) e shared =
-    let line : Text = b ∷ bs in
-    let parts = stage-is r (kept line, rest_means (kept line)) s [] [] e in
-    let same = same-rest line in
-    let q : Read = (line, rest_means line) in
-    let here : behind_read marked s x r ≡ behind_read marked s x q = ap (behind_read marked s x) parts.0 ∙ same.behind marked s x in
-    let there : after_read x.place r ≡ after_read x.place q =
-    sym (place-behind marked s x r) ∙ (ap (λ (w : Walk). w.place) here ∙ place-behind marked s x q) in
-    let Q : Place → Type 0 = λ z. IsShared s z.desk in
-    record {
-      whole = (q, s) ∷ [];
-      lines = refl;
-      shared = (subst Q there shared.0, tt);
-      text = ap₂ (λ t w. t ++ sheet_end w) (sym (ap (read_text marked s x) parts.0 ∙ same.text marked s x)) (sym here);
-    }
-
-whole-rest : (marked : Bool) (x : Walk) (rest : List ℕ) (stages : List Stage) → map read_of stages ≡ read_rest (kept rest) → AreShared x.place stages
-    → WholeRest marked x rest stages
-whole-rest marked x [] stages e shared = record { whole = stages; lines = e ∙ ap read_rest kept_nil; shared = shared; text = refl }
-whole-rest marked x (b ∷ bs) stages e shared =
-    whole-line marked x b bs stages
-    (e ∙ (ap read_rest (kept_some b bs) ∙ ap (λ l. (l, rest_means l) ∷ []) (sym (kept_some b bs)))) shared
-
--- something is kept of it just where there is something
-pub kept-some : (rest : List ℕ) → (length (kept rest) == 0) ≡ (length rest == 0)
-kept-some [] = ap (λ l. length l == 0) kept_nil
-kept-some (b ∷ bs) =
-    ap (λ l. length l == 0) (kept_some b bs)
-    ∙ (ne_eqb (length (b ∷ take 1024 bs)) 0 (λ q. omega (arith, q)) ∙ sym (ne_eqb (length (b ∷ bs)) 0 (λ q. omega (arith, q))))
+use Rattle.rh_pictures.proofs.ScriptLemmas.{TakenScript, taken-lines, taken-script}
+use Rattle.rh_pictures.proofs.SheetLemmas.{end-text, front-text, sheet-telling, took-end, took-one, was-bad}
+use Rattle.rh_pictures.proofs.WalkLemmas.{Stands}
 
 -- ---- before the first line
 
@@ -100,55 +51,51 @@ head-put {o = o} {p = p} name same r puts = subst (λ (k : ℕ). Puts o p r (she
 
 -- ---- the whole script was read
 
--- the sheet of all lines, and whether one was bad
-record SheetEnded {D : Type 0} (marked : Bool) (d : Desk) (name : Text) (t : Painter D) (text bytes : List ℕ) : Type 0 where
-  sheet : IsSheet marked name d (read_lines bytes) (sheet_head name d.pool ++ text)
-  bad : t.has_bad_line ≡ has_bad_line bytes
-
 module _ {D : Type 0} {desk : D → Desk} {marked : Bool} {d : Desk} {s : Painter D} (name : Text) (is : Stands desk marked (walk_from d) s)
     (well : s.has_bad_line ≡ false) where
-  script-painted : {t : Painter D} {text : Text} (bytes : List ℕ) → TookScript (TookPaintedLine desk) (TookPaintedRest desk) s bytes t text
-      → SheetEnded marked d name t text bytes
-  script-painted bytes took =
-      let p = took-lines (ended bytes) is took.taken in
-      let x = walk_behind marked (walk_from d) p.stages in
-      let last = took.ended in
-      let w = whole-rest marked x (unended bytes) last.stages last.lines (all-there p.stands last.stages last.shared) in
-      let P : Place → Type 0 = λ z. AreShared z w.whole in
-      let bad : took.taker.has_bad_line ≡ list_any is_bad (ended bytes) = p.bad_is ∙ ap₂ (λ a b. a || b) well (bad-lines (ended bytes)) in
-      record {
-        sheet = record {
-          stages = p.stages ++ w.whole;
-          lines = map-append read_of p.stages w.whole ∙ ap₂ (λ a b. a ++ b) p.lines w.lines;
-          shared = shared-more (walk_from d).place p.stages w.whole p.shared (subst P (place-after marked (walk_from d) p.stages) w.shared);
-          is = ap (λ t. sheet_head name d.pool ++ t) (took.whole ∙ (ap₂ (λ a b. a ++ b) p.text_is
-              (last.text_is ∙ (rest-there p.stands last.stages ∙ sym w.text)) ∙ sym (lines-split marked (walk_from d) p.stages w.whole)));
-        };
-        bad = last.bad ∙ ap₂ (λ a b. a || not b) bad (kept-some (unended bytes));
-      }
-
   -- the sheet of some lines without its end
   front-of : (t : Painter D) (text : Text) (lines : List Text) → TookAll (TookPaintedLine desk) s (map kept lines) t text
       → IsSheetFront marked name d (map read_line lines) (sheet_head name d.pool ++ text)
   front-of t text lines took =
-      let p = took-lines lines is took in
-      record { stages = p.stages; lines = p.lines; shared = p.shared; is = ap (λ t. sheet_head name d.pool ++ t) p.text_is }
+      let all = taken-lines (sheet-telling marked) (Stands desk marked) was-bad (TookPaintedLine desk) (took-one desk marked) lines is took in
+      record {
+        stages = all.stages;
+        lines = all.lines;
+        shared = all.shared;
+        is = ap (λ t. sheet_head name d.pool ++ t) (all.text_is ∙ front-text marked (walk_from d) all.stages);
+      }
+
+  -- a whole script, and its sheet
+  script-taken : {t : Painter D} {text : Text} (bytes : List ℕ) → TookScript (TookPaintedLine desk) (TookPaintedRest desk) s bytes t text
+      → TakenScript (sheet-telling marked) sheet_end was-bad (walk_from d) bytes t text
+  script-taken bytes =
+      taken-script (sheet-telling marked) (Stands desk marked) was-bad (TookPaintedLine desk) (took-one desk marked) sheet_end (TookPaintedRest desk)
+      (took-end desk marked) bytes is well
+
+  script-painted : {t : Painter D} {text : Text} (bytes : List ℕ) → TookScript (TookPaintedLine desk) (TookPaintedRest desk) s bytes t text
+      → IsSheet marked name d (read_lines bytes) (sheet_head name d.pool ++ text)
+  script-painted bytes took =
+      let all = script-taken bytes took in
+      record {
+        stages = all.stages;
+        lines = all.lines;
+        shared = all.shared;
+        is = ap (λ t. sheet_head name d.pool ++ t) (all.text_is ∙ end-text marked (walk_from d) all.stages);
+      }
 
   module _ {before after : Input} {old head new : Output} (begun : Takes old head (sheet_head name d.pool)) where
     pub painted : {t : Painter D} (status : Status) → FedAll (TookPaintedLine desk) (TookPaintedRest desk) before after s t head new
         → status ≡ status_of t.has_bad_line → run.Painted marked name d before after old new status
-    painted status fed told =
-        let all = script-painted fed.bytes fed.taken in
-        record {
-          bytes = fed.bytes;
-          read = fed.read;
-          at_end = fed.at_end;
-          well = fed.well;
-          text = sheet_head name d.pool ++ fed.text;
-          sheet = all.sheet;
-          written = takes_more begun fed.written;
-          status_is = told ∙ ap status_of all.bad;
-        }
+    painted status fed told = record {
+      bytes = fed.bytes;
+      read = fed.read;
+      at_end = fed.at_end;
+      well = fed.well;
+      text = sheet_head name d.pool ++ fed.text;
+      sheet = script-painted fed.bytes fed.taken;
+      written = takes_more begun fed.written;
+      status_is = told ∙ ap status_of (script-taken fed.bytes fed.taken).bad_is;
+    }
 
     pub painted-so-far : {t : Painter D} → Fed (TookPaintedLine desk) before after s t head new → PaintedSoFar marked name d before after old new
     painted-so-far fed = record {
@@ -178,7 +125,7 @@ module _ {D : Type 0} {desk : D → Desk} {marked : Bool} {d : Desk} {s : Painte
           ap (map read_line) w.whole ∙ map-append read_line w.front w.behind,
           front-of w.taker fed.text w.front w.taken,
         )
-        go (inr (at_end, t, w)) = inr (at_end, (script-painted fed.bytes w).sheet)
+        go (inr (at_end, t, w)) = inr (at_end, script-painted fed.bytes w)
 
 -- it failed before the first line
 pub painted-head : (marked : Bool) (name : Text) (d : Desk) (before after : Input) (bytes : List ℕ) → Consumes before.left after.left bytes

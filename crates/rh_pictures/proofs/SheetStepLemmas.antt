@@ -6,8 +6,7 @@ use Rattle.rh_pictures.proofs.Common.{behind_read, fault_happened, happened_text
 use Rattle.rh_defs.specs.declared.reply.Reply.{Reply}
 use Rattle.rh_defs.specs.declared.reply.Reply.TheVariants.{Done}
 use Rattle.rh_pictures.specs.Deeds.{IsLikeReply}
-use Rattle.rh_pictures.proofs.MapLemmas.{shared_alike}
-use Rattle.rh_pictures.proofs.MapStepLemmas.{reordered-same}
+use Rattle.rh_pictures.proofs.ScriptLemmas.{or-off, or-on, reordered-as, shared-alike}
 use Rattle.rh_figure.specs.Scene.{before_of}
 use Rattle.rh_figure.specs.Map.{is_mark, place}
 use Rattle.rh_figure.proofs.Alike.{marks-alike, scene-alike}
@@ -21,14 +20,6 @@ use Rattle.rh_pictures.specs.Inner.PaintedSteps.{ComesTo, DrewLine, TookStep, Wr
 
 -- ---- tests
 
-or-off : (b : Bool) → b ≡ (b || false)
-or-off true = refl
-or-off false = refl
-
-or-on : (b : Bool) → true ≡ (b || true)
-or-on true = refl
-or-on false = refl
-
 and-off : (b : Bool) → false ≡ (b && false)
 and-off true = refl
 and-off false = refl
@@ -40,9 +31,6 @@ and-on false = refl
 either-way : (b : Bool) (m n : ℕ) → (if b then m else n) ≡ (if not b then n else m)
 either-way true m n = refl
 either-way false m n = refl
-
-reordered-as : {D : Type 0} (desk : D → Desk) (a b : D) → b ≡ a → IsReordered (desk a) (desk b)
-reordered-as desk a b e = let P : Desk → Type 0 = λ z. IsReordered (desk a) z in subst P (ap desk (sym e)) (reordered-same (desk a))
 
 -- ---- where a sheet stands behind a step
 
@@ -111,7 +99,7 @@ module _ {D : Type 0} (desk : D → Desk) (m b n : Painter D) (o p : List ℕ) (
         }
 
     shared : IsShared took.share (after_read (walk_in desk m).place (line, meaning)).desk
-    shared = shared_alike took.share desk-is took.shared
+    shared = shared-alike took.share desk-is took.shared
 
     whole : happened_text b.marked (walk_in desk b) line (happened took.share) ≡ read_text m.marked took.share (walk_in desk m) (line, meaning)
     whole = text-moved (happened took.share) (now took.share) (same took.share) ∙ sym (text-is took.share)

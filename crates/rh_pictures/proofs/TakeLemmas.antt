@@ -4,55 +4,40 @@ use Rattle.rh_pictures.proofs.Common.{not, ◌==◌, Command, LineFault, Desk, M
 use Rattle.rh_pictures.proofs.Common.{Text, Place, Read, after_read, at_desk, Walk, behind_read, read_text, sheet_lines, Painter, TookPaintedLine, offered_as}
 use Rattle.rh_pictures.proofs.Common.{walk_in}
 use Rattle.std.proofs.lemmas.Bool.{eqb-true}
-use Rattle.rh_pictures.proofs.MapRunLemmas.{kept_some}
 use Rattle.rh_session.specs.Taken.{Gives}
 use Rattle.rh_session.proofs.LineLemmas.{kept_nil}
 use Rattle.rh_figure.specs.Map.{read_rest}
 use Rattle.rh_sheet.specs.Sheet.{sheet_end}
 use Rattle.rh_pictures.specs.Inner.PaintedSteps.{DrewLine, DrewRest}
 use Rattle.rh_pictures.specs.PaintedWalks.{TookPaintedRest}
-use Rattle.rh_pictures.proofs.LineLemmas.{SameRead, same-line, same-rest}
-use Rattle.rh_pictures.proofs.SheetRunLemmas.{kept-some}
+use Rattle.rh_pictures.proofs.ScriptLemmas.{kept-first, kept-there, or-off, place-kept, same-line, same-rest}
+use Rattle.rh_pictures.proofs.SheetLemmas.{sheet-telling}
 use Rattle.rh_pictures.proofs.TextPuts.{text_then}
-use Rattle.rh_pictures.proofs.WalkLemmas.{place-behind}
 
 -- ---- a line as far as it is kept
-
-module _ {D : Type 0} (desk : D → Desk) (m : Painter D) (means : Text → Meaning (Option Command)) (line : Text) (same : SameRead means line) (s : Share) where
-  place-kept : after_read (walk_in desk m).place (line, means line) ≡ after_read (walk_in desk m).place (kept line, means (kept line))
-  place-kept =
-      sym (place-behind m.marked s (walk_in desk m) (line, means line))
-      ∙ (ap (λ (w : Walk). w.place) (sym (same.behind m.marked s (walk_in desk m)))
-      ∙ place-behind m.marked s (walk_in desk m) (kept line, means (kept line)))
-
-  shared-kept : IsShared s (after_read (walk_in desk m).place (line, means line)).desk
-      → IsShared s (after_read (walk_in desk m).place (kept line, means (kept line))).desk
-  shared-kept shared = let P : Place → Type 0 = λ z. IsShared s z.desk in subst P place-kept shared
 
 -- what was offered of a line was offered of what is kept of it
 drew-kept : {D : Type 0} {desk : D → Desk} {m n : Painter D} {o p : List ℕ} (line : Text) → DrewLine desk m o line (line_means line) n p
     → DrewLine desk m o (kept line) (line_means (kept line)) n p
 drew-kept {desk = desk} {m = m} {n = n} {o = o} line drew =
-    let same = same-line line in
+    let same = same-line (sheet-telling m.marked) line in
     let x = walk_in desk m in
+    let there = sym (place-kept (sheet-telling m.marked) same drew.share x) in
+    let S : Place → Type 0 = λ z. IsShared drew.share z.desk in
     let R : Place → Type 0 = λ z. IsReordered z.desk (desk n.drawn) in
     record {
       share = drew.share;
-      shared = shared-kept desk m line_means line same drew.share drew.shared;
-      offered = offered_as o (sym (same.text m.marked drew.share x)) drew.offered;
+      shared = subst S there drew.shared;
+      offered = offered_as o (sym (same.text drew.share x)) drew.offered;
       follows = record {
-        desk_is = subst R (place-kept desk m line_means line same drew.share) drew.follows.desk_is;
-        walk_is = drew.follows.walk_is ∙ ap (at_desk (desk n.drawn)) (sym (same.behind m.marked drew.share x));
+        desk_is = subst R there drew.follows.desk_is;
+        walk_is = drew.follows.walk_is ∙ ap (at_desk (desk n.drawn)) (sym (same.behind drew.share x));
         marked_is = drew.follows.marked_is;
         bad = drew.follows.bad ∙ ap (λ z. m.has_bad_line || is_err z) (sym (kept_means line));
       };
     }
 
 -- ---- what stands behind the last line feed
-
-or-off : (b : Bool) → b ≡ (b || false)
-or-off true = refl
-or-off false = refl
 
 -- nothing stands there
 pub empty-drew : {D : Type 0} (desk : D → Desk) (m : Painter D) {o p : List ℕ} (rest : Text) → true ≡ (length rest == 0)
@@ -62,13 +47,13 @@ empty-drew desk m [] none offered = record {
   lines = sym (ap read_rest kept_nil);
   shared = tt;
   offered = offered;
-  bad = or-off m.has_bad_line ∙ ap (λ b. m.has_bad_line || not b) (sym (kept-some []));
+  bad = or-off m.has_bad_line ∙ ap (λ b. m.has_bad_line || not b) (sym (kept-there []));
 }
 empty-drew desk m (b ∷ bs) none offered = let no : length (b ∷ bs) ≡ 0 = eqb-true (length (b ∷ bs)) 0 (sym none) in absurd (omega arith)
 
 one-read : (rest : Text) → false ≡ (length rest == 0) → (kept rest, rest_means (kept rest)) ∷ [] ≡ read_rest (kept rest)
 one-read [] some = absurd (cc)
-one-read (b ∷ bs) some = ap (λ l. (l, rest_means l) ∷ []) (kept_some b bs) ∙ sym (ap read_rest (kept_some b bs))
+one-read (b ∷ bs) some = ap (λ l. (l, rest_means l) ∷ []) (kept-first b bs) ∙ sym (ap read_rest (kept-first b bs))
 
 -- something does
 module _ {D : Type 0} (desk : D → Desk) (m : Painter D) (rest : Text) (some : false ≡ (length rest == 0)) (fault : LineFault)
@@ -80,15 +65,17 @@ module _ {D : Type 0} (desk : D → Desk) (m : Painter D) (rest : Text) (some : 
       ≡ read_text m.marked s (walk_in desk m) read-kept ++ sheet_end (behind_read m.marked s (walk_in desk m) read-kept)
   end-kept s =
       let x = walk_in desk m in
-      let same = same-rest rest in
+      let same = same-rest (sheet-telling m.marked) rest in
       ap (λ z. read_text m.marked s x (rest, z) ++ sheet_end (behind_read m.marked s x (rest, z))) (sym means)
-      ∙ ap₂ (λ t w. t ++ sheet_end w) (sym (same.text m.marked s x)) (sym (same.behind m.marked s x))
+      ∙ ap₂ (λ t w. t ++ sheet_end w) (sym (same.text s x)) (sym (same.behind s x))
 
   shared-rest : (s : Share) → IsShared s (after_read (walk_in desk m).place (rest, Err fault)).desk
       → IsShared s (after_read (walk_in desk m).place read-kept).desk
   shared-rest s shared =
       let P : Meaning (Option Command) → Type 0 = λ z. IsShared s (after_read (walk_in desk m).place (rest, z)).desk in
-      shared-kept desk m rest_means rest (same-rest rest) s (subst P (sym means) shared)
+      let S : Place → Type 0 = λ z. IsShared s z.desk in
+      let telling = sheet-telling m.marked in
+      subst S (sym (place-kept telling (same-rest telling rest) s (walk_in desk m))) (subst P (sym means) shared)
 
   pub some-drew : {n : Painter D} {o q p : List ℕ} → DrewLine desk m o rest (Err fault) n q → p ≡ q ++ sheet_end (walk_in desk n)
       → DrewRest desk m o (kept rest) n p
@@ -97,7 +84,7 @@ module _ {D : Type 0} (desk : D → Desk) (m : Painter D) (rest : Text) (some : 
     lines = one-read rest some;
     shared = (shared-rest drew.share drew.shared, tt);
     offered = offered_as o (end-kept drew.share) (text_then o _ _ drew.offered (offered_as q (ap sheet_end drew.follows.walk_is) end));
-    bad = drew.follows.bad ∙ ap (λ b. m.has_bad_line || not b) (some ∙ sym (kept-some rest));
+    bad = drew.follows.bad ∙ ap (λ b. m.has_bad_line || not b) (some ∙ sym (kept-there rest));
   }
 
 -- ---- its text

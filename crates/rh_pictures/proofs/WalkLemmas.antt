@@ -7,7 +7,7 @@ use Rattle.rh_defs.specs.declared.reply.Reply.{Reply}
 use Rattle.rh_defs.proofs.Steps.{order-ignored}
 use Rattle.rh_figure.specs.Scene.{before_of, is_still, no_marks}
 use Rattle.rh_figure.proofs.Alike.{before-alike, marks-alike, scene-alike, text-alike}
-use Rattle.rh_pictures.proofs.MapLemmas.{SamePlaces, after_alike, shared_alike}
+use Rattle.rh_pictures.proofs.ScriptLemmas.{SamePlaces, places-alike, reordered-more, shared-alike}
 use Rattle.rh_sheet.specs.Sheet.{behind_happened, command_happened}
 use Rattle.rh_pictures.specs.PaintedWalks.{FollowsPainting}
 
@@ -55,12 +55,6 @@ place-behind marked s x (line, Err fault) = refl
 
 -- ---- where a painter stands
 
-reordered-more : {a b c : Desk} → IsReordered a b → IsReordered b c → IsReordered a c
-reordered-more {a} {b} {c} p q = record {
-  same = record { each = λ h. p.same.each h ∙ q.same.each h };
-  rest = q.rest ∙ ap (λ d. with_queue c.post.queued d) p.rest;
-}
-
 pub record Stands {D : Type 0} (desk : D → Desk) (marked : Bool) (x : Walk) (m : Painter D) : Type 0 where
   pub desk_is : IsReordered x.place.desk (desk m.drawn)
   pub walk_is : walk_in desk m ≡ at_desk (desk m.drawn) x
@@ -87,7 +81,7 @@ module _ {D : Type 0} {desk : D → Desk} {marked : Bool} {x : Walk} {m : Painte
   -- behind a line a painter stands where the sheet does
   pub stands-on : {n : Painter D} → FollowsPainting desk m s r n → Stands desk marked (behind_read marked s x r) n
   stands-on {n} f =
-      let same = after_alike x.place (walk_in desk m).place r (stands-place is) in
+      let same = places-alike x.place (walk_in desk m).place r (stands-place is) in
       let P : Place → Type 0 = λ z. IsReordered z.desk (desk n.drawn) in
       record {
         desk_is = subst P (sym (place-behind marked s x r)) (reordered-more same.desks f.desk_is);
@@ -97,7 +91,7 @@ module _ {D : Type 0} {desk : D → Desk} {marked : Bool} {x : Walk} {m : Painte
 
   -- the pool is shared out as the sheet's desk says
   pub shared-there : IsShared s (after_read (walk_in desk m).place r).desk → IsShared s (after_read x.place r).desk
-  shared-there shared = shared_alike s (after_alike x.place (walk_in desk m).place r (stands-place is)).desks shared
+  shared-there shared = shared-alike s (places-alike x.place (walk_in desk m).place r (stands-place is)).desks shared
 
 -- ---- the rest of a sheet
 
@@ -106,7 +100,7 @@ pub lines-alike : (marked : Bool) (a b : Desk) (x : Walk) (stages : List Stage) 
     → sheet_lines marked (at_desk b x) stages ≡ sheet_lines marked (at_desk a x) stages
 lines-alike marked a b x [] is = refl
 lines-alike marked a b x ((r, s) ∷ rest) is =
-    let places = after_alike (at_desk a x).place (at_desk b x).place r (record { desks = is; steps = refl; wanted = refl }) in
+    let places = places-alike (at_desk a x).place (at_desk b x).place r (record { desks = is; steps = refl; wanted = refl }) in
     let P : Place → Type 0 = λ z. IsReordered z.desk (after_read (at_desk b x).place r).desk in
     ap₂ (λ t u. t ++ u) (read-alike marked s x r is)
     (ap (λ w. sheet_lines marked w rest) (behind-alike marked s x r is)
@@ -116,8 +110,8 @@ lines-alike marked a b x ((r, s) ∷ rest) is =
 pub all-shared : (p q : Place) (stages : List Stage) → SamePlaces p q → AreShared q stages → AreShared p stages
 all-shared p q [] same shared = tt
 all-shared p q ((r, s) ∷ rest) same shared =
-    let behind = after_alike p q r same in
-    (shared_alike s behind.desks shared.0, all-shared (after_read p r) (after_read q r) rest behind shared.1)
+    let behind = places-alike p q r same in
+    (shared-alike s behind.desks shared.0, all-shared (after_read p r) (after_read q r) rest behind shared.1)
 
 module _ {D : Type 0} {desk : D → Desk} {marked : Bool} {x : Walk} {m : Painter D} (is : Stands desk marked x m) (stages : List Stage) where
   pub rest-there : sheet_lines m.marked (walk_in desk m) stages ≡ sheet_lines marked x stages

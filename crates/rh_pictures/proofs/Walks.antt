@@ -1,6 +1,6 @@
 -- Lists that are shown or looked through, place by place.
 use Rattle.rh_pictures.proofs.Common.{◌≡◌, ℕ, ◌+◌, ◌<◌, ap, sym, ◌∙◌, List, [], ◌∷◌, ◌++◌, length, drop, get_or, Some, None, append_assoc, append-nil, codes}
-use Rattle.rh_pictures.proofs.Common.{slice_get, flat_map, drop_more, Text, map, shown_lines, shown-append, rest-none, rest-some}
+use Rattle.rh_pictures.proofs.Common.{◌-◌, arith, slice_get, slice_get_within, flat_map, drop_more, Text, map, shown_lines, shown-append, rest-none, rest-some}
 use Rattle.rh_figure.specs.Map.{shown_line}
 use Rattle.rh_map.proofs.SeamLemmas.{shown-one}
 use Rattle.std.proofs.lemmas.List.Folds.{flat_map-map}
@@ -8,6 +8,10 @@ use Rattle.std.proofs.lemmas.List.Folds.{flat_map-map}
 -- the place of a slice that a loop is at
 pub rest-at : {A : Type 0} (xs : List A) (i : ℕ) (x : A) → i < length xs → x ≡ get_or xs i x → drop i xs ≡ x ∷ drop (i + 1) xs
 rest-at xs i x inside e = drop_more xs i x inside ∙ ap (λ y. y ∷ drop (i + 1) xs) (sym e)
+
+-- a walk by place goes on
+pub walk-less : {A : Type 0} (xs : List A) (i : ℕ) (x : A) → slice_get xs i ≡ Some x → length xs - (i + 1) < length xs - i
+walk-less xs i x e = let inside : i < length xs = slice_get_within xs i x e in omega arith
 
 -- ---- what is found first
 

@@ -1,5 +1,6 @@
 use Rattle.rh_pictures.proofs.Common.{arith, slice_get_within}
 use Rattle.rh_scene.proofs.Places.{past-end}
+use Rattle.rh_pictures.proofs.Walks.{walk-less}
 use Rattle.rh_pictures.proofs.counts.count_made.Goals as goal
 
 pub overflow_add-i : goal.overflow_add-i
@@ -9,9 +10,7 @@ overflow_add-i g c =
     omega arith
 
 pub areas-smaller : goal.areas-smaller
-areas-smaller g c =
-    let inside = slice_get_within (g.S.Sight.desk c.args.sight.now).made c.areas.i _ c.in-Some.ensures.some in
-    omega arith
+areas-smaller g c = walk-less (g.S.Sight.desk c.args.sight.now).made c.areas.i _ c.in-Some.ensures.some
 
 pub areas-preserved : goal.areas-preserved
 areas-preserved g c =

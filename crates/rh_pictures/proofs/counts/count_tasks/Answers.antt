@@ -1,4 +1,5 @@
-use Rattle.rh_pictures.proofs.Common.{◌<◌, length, ap, arith, slice_get_within, rest-none, rest-some}
+use Rattle.rh_pictures.proofs.Common.{length, ap, arith, slice_get_within, rest-none, rest-some}
+use Rattle.rh_pictures.proofs.Walks.{walk-less}
 use Rattle.rh_pictures.proofs.counts.count_tasks.Goals as goal
 
 pub overflow_add-i : goal.overflow_add-i
@@ -7,10 +8,7 @@ overflow_add-i g c =
     omega (arith, c.in-Some.ensures.few, slice_get_within (g.S.Sight.desk c.args.sight.now).tasks c.tasks.i s.0 s.1)
 
 pub tasks-smaller : goal.tasks-smaller
-tasks-smaller g c =
-    let s = c.in-Some.ensures.some in
-    let inside : c.tasks.i < length (g.S.Sight.desk c.args.sight.now).tasks = slice_get_within (g.S.Sight.desk c.args.sight.now).tasks c.tasks.i s.0 s.1 in
-    omega arith
+tasks-smaller g c = walk-less (g.S.Sight.desk c.args.sight.now).tasks c.tasks.i _ c.in-Some.ensures.some.1
 
 pub tasks-preserved : goal.tasks-preserved
 tasks-preserved g c =

@@ -1,6 +1,6 @@
-use Rattle.rh_pictures.proofs.Common.{◌<◌, length, ap, arith, flat_map, slice_get_within, rest-none, rest-some, scene_at}
+use Rattle.rh_pictures.proofs.Common.{ap, arith, flat_map, slice_get_within, rest-none, rest-some, scene_at}
 use Rattle.rh_pictures.specs.Parts.{slot_lines}
-use Rattle.rh_pictures.proofs.Walks.{left_less, left_none}
+use Rattle.rh_pictures.proofs.Walks.{left_less, left_none, walk-less}
 use Rattle.rh_pictures.proofs.map.slots.print_slot_part.Goals as goal
 
 pub tasks-preserved : goal.tasks-preserved
@@ -22,7 +22,4 @@ overflow_add-i g c =
     omega (arith, c.in-Some.ensures.few, slice_get_within (g.S.Sight.desk c.args.sight.now).tasks c.tasks.i s.0 s.1)
 
 pub tasks-smaller : goal.tasks-smaller
-tasks-smaller g c =
-    let s = c.in-Some.ensures.some in
-    let inside : c.tasks.i < length (g.S.Sight.desk c.args.sight.now).tasks = slice_get_within (g.S.Sight.desk c.args.sight.now).tasks c.tasks.i s.0 s.1 in
-    omega arith
+tasks-smaller g c = walk-less (g.S.Sight.desk c.args.sight.now).tasks c.tasks.i _ c.in-Some.ensures.some.1

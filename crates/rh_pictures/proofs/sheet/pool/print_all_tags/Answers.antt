@@ -1,9 +1,10 @@
-use Rattle.rh_pictures.proofs.Common.{◌≡◌, ◌<◌, length, refl, ap₂, ◌∙◌, arith, flat_map, slice_get_within, holdings, left_less, left_none, scene_at, offered_as}
+use Rattle.rh_pictures.proofs.Common.{◌≡◌, refl, ap₂, ◌∙◌, arith, flat_map, slice_get_within, holdings, left_less, left_none, scene_at, offered_as}
 use Rattle.rh_pictures.proofs.Common.{who_seen}
 use Rattle.rh_sheet.specs.Owners.{owner_tag}
 use Rattle.rh_sheet.specs.Pool.{tag_text, tags_text}
 use Rattle.rh_pictures.proofs.OwnerLemmas.{owner-pages}
 use Rattle.rh_pictures.proofs.TextWalks.{text-none, text-some}
+use Rattle.rh_pictures.proofs.Walks.{walk-less}
 use Rattle.rh_pictures.proofs.sheet.pool.print_all_tags.Goals as goal
 
 pub overflow_add-k : goal.overflow_add-k
@@ -11,10 +12,7 @@ overflow_add-k g c =
     omega (arith, c.in-Some.ensures.few, slice_get_within (holdings (g.S.Sight.desk c.args.sight.now)) c.owners.k _ c.in-Some.ensures.some.stands)
 
 pub owners-smaller : goal.owners-smaller
-owners-smaller g c =
-    let all = holdings (g.S.Sight.desk c.args.sight.now) in
-    let inside : c.owners.k < length all = slice_get_within all c.owners.k _ c.in-Some.ensures.some.stands in
-    omega arith
+owners-smaller g c = walk-less (holdings (g.S.Sight.desk c.args.sight.now)) c.owners.k _ c.in-Some.ensures.some.stands
 
 pub owners-preserved : goal.owners-preserved
 owners-preserved g c =

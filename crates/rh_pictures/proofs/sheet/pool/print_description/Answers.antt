@@ -1,9 +1,10 @@
-use Rattle.rh_pictures.proofs.Common.{◌≡◌, ◌<◌, ◌++◌, [], ◌∷◌, length, ap, ap₂, sym, ◌∙◌, arith, append_assoc, codes, decimal, concat, flat_map}
+use Rattle.rh_pictures.proofs.Common.{◌≡◌, ◌++◌, [], ◌∷◌, length, ap, ap₂, sym, ◌∙◌, arith, append_assoc, codes, decimal, concat, flat_map}
 use Rattle.rh_pictures.proofs.Common.{slice_get_within, Desk, Text, owner_name, Scene, Holding, holdings, left_from, left_less, escape, escaped_byte, scene_at}
 use Rattle.rh_pictures.proofs.Common.{left_last, offered_as, who_seen}
 use Rattle.rh_defs.specs.Desk.{free_pages}
 use Rattle.rh_sheet.specs.Pool.{free_text, owner_sentence}
 use Rattle.rh_pictures.proofs.ElementLemmas.{elements-none, elements-some}
+use Rattle.rh_pictures.proofs.Walks.{walk-less}
 use Rattle.rh_pictures.proofs.sheet.pool.print_description.Goals as goal
 
 abbrev sentence : Scene → Holding → Text
@@ -31,10 +32,7 @@ overflow_add-k g c =
     omega (arith, c.in-Some.ensures.few, slice_get_within (holdings (g.S.Sight.desk c.args.sight.now)) c.owners.k _ c.in-Some.ensures.some.stands)
 
 pub owners-smaller : goal.owners-smaller
-owners-smaller g c =
-    let all = holdings (g.S.Sight.desk c.args.sight.now) in
-    let inside : c.owners.k < length all = slice_get_within all c.owners.k _ c.in-Some.ensures.some.stands in
-    omega arith
+owners-smaller g c = walk-less (holdings (g.S.Sight.desk c.args.sight.now)) c.owners.k _ c.in-Some.ensures.some.stands
 
 pub owners-preserved : goal.owners-preserved
 owners-preserved g c =

@@ -1,5 +1,6 @@
-use Rattle.rh_pictures.proofs.Common.{◌<◌, length, refl, arith, flat_map, slice_get_within, left_less, left_none, slot_part, scene_at}
+use Rattle.rh_pictures.proofs.Common.{refl, arith, flat_map, slice_get_within, left_less, left_none, slot_part, scene_at}
 use Rattle.rh_pictures.proofs.TextWalks.{text-none, text-some}
+use Rattle.rh_pictures.proofs.Walks.{walk-less}
 use Rattle.rh_pictures.proofs.sheet.slots.print_slots.Goals as goal
 
 pub tasks-preserved : goal.tasks-preserved
@@ -22,7 +23,4 @@ overflow_add-i g c =
     omega (arith, c.in-Some.ensures.few, slice_get_within (g.S.Sight.desk c.args.sight.now).tasks c.tasks.i s.0 s.1)
 
 pub tasks-smaller : goal.tasks-smaller
-tasks-smaller g c =
-    let s = c.in-Some.ensures.some in
-    let inside : c.tasks.i < length (g.S.Sight.desk c.args.sight.now).tasks = slice_get_within (g.S.Sight.desk c.args.sight.now).tasks c.tasks.i s.0 s.1 in
-    omega arith
+tasks-smaller g c = walk-less (g.S.Sight.desk c.args.sight.now).tasks c.tasks.i _ c.in-Some.ensures.some.1

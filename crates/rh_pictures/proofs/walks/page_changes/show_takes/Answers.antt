@@ -1,8 +1,9 @@
-use Rattle.rh_pictures.proofs.Common.{◌<◌, List, length, refl, arith, flat_map, slice_get_within, Holding, holdings, scene_at}
+use Rattle.rh_pictures.proofs.Common.{List, refl, arith, flat_map, slice_get_within, Holding, holdings, scene_at}
 use Rattle.rh_figure.specs.Changes.{takes_text}
 use Rattle.rh_map.proofs.Left.{left_less, left_none}
 use Rattle.rh_pictures.proofs.ElementLemmas.{parts-both}
 use Rattle.rh_pictures.proofs.TextWalks.{text-none, text-some}
+use Rattle.rh_pictures.proofs.Walks.{walk-less}
 use Rattle.rh_pictures.proofs.walks.page_changes.show_takes.Goals as goal
 
 pub overflow_add-k : goal.overflow_add-k
@@ -10,10 +11,7 @@ overflow_add-k g c =
     omega (arith, c.in-Some.ensures.few, slice_get_within (holdings (g.S.Sight.desk c.args.sight.now)) c.owners.k _ c.in-Some.ensures.some.stands)
 
 pub owners-smaller : goal.owners-smaller
-owners-smaller g c =
-    let all = holdings (g.S.Sight.desk c.args.sight.now) in
-    let inside : c.owners.k < length all = slice_get_within all c.owners.k _ c.in-Some.ensures.some.stands in
-    omega arith
+owners-smaller g c = walk-less (holdings (g.S.Sight.desk c.args.sight.now)) c.owners.k _ c.in-Some.ensures.some.stands
 
 pub owners-preserved : goal.owners-preserved
 owners-preserved g c =

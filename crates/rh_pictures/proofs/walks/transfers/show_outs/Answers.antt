@@ -1,9 +1,9 @@
-use Rattle.rh_pictures.proofs.Common.{◌<◌, length, map, ap₂, refl, arith, flat_map, slice_get_within, Task, goes_out, ins_of, outs_named}
+use Rattle.rh_pictures.proofs.Common.{map, ap₂, refl, arith, flat_map, slice_get_within, Task, goes_out, ins_of, outs_named}
 use Rattle.rh_map.proofs.Left.{left_less, left_none}
 use Rattle.rh_pictures.proofs.TransferLemmas.{outs-flat}
 use Rattle.rh_pictures.proofs.TextPuts.{left_from}
 use Rattle.rh_pictures.proofs.TextWalks.{text-none, text-some}
-use Rattle.rh_pictures.proofs.Walks.{offered_as}
+use Rattle.rh_pictures.proofs.Walks.{offered_as, walk-less}
 use Rattle.rh_pictures.proofs.walks.transfers.show_outs.Goals as goal
 
 pub tasks-init : goal.tasks-init
@@ -33,7 +33,4 @@ overflow_add-i g c =
     omega (arith, c.in-Some.ensures.few, slice_get_within (g.S.Sight.desk c.args.sight.now).tasks c.tasks.i s.0 s.1)
 
 pub tasks-smaller : goal.tasks-smaller
-tasks-smaller g c =
-    let s = c.in-Some.ensures.some in
-    let inside : c.tasks.i < length (g.S.Sight.desk c.args.sight.now).tasks = slice_get_within (g.S.Sight.desk c.args.sight.now).tasks c.tasks.i s.0 s.1 in
-    omega arith
+tasks-smaller g c = walk-less (g.S.Sight.desk c.args.sight.now).tasks c.tasks.i _ c.in-Some.ensures.some.1
