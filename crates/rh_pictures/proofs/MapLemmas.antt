@@ -1,8 +1,8 @@
 -- How a map shows a line of its script, and where it stands behind it.
-use Rattle.rh_pictures.proofs.Common.{◌≡◌, ℕ, ◌+◌, ◌<◌, Bool, ◌||◌, List, [], ◌∷◌, ◌++◌, length, refl, sym, ap, ap₂, ◌∙◌, append-nil, arith, Option, Some}
-use Rattle.rh_pictures.proofs.Common.{None, Err, if◌then◌else◌, not, ◌==◌, ne_eqb, drop, codes, decimal, flat_map-append, Command, LineFault, TooLong}
-use Rattle.rh_pictures.proofs.Common.{Meaning, line_means, Desk, IsReordered, kept, rest_means, Share, IsShared, Text, Place, Read, Stage, after_read}
-use Rattle.rh_pictures.proofs.Common.{lines_of_read, read_line, written_lines, Mapper, Drew, TookLine, place_in}
+use Rattle.rh_pictures.proofs.Common.{◌≡◌, ℕ, ◌+◌, ◌<◌, Bool, ◌||◌, List, [], ◌∷◌, ◌++◌, length, refl, sym, ap, ap₂, ◌∙◌, append-nil, arith, Option, Err}
+use Rattle.rh_pictures.proofs.Common.{if◌then◌else◌, not, ne_eqb, drop, codes, decimal, flat_map-append, Command, LineFault, TooLong, Meaning, line_means, Desk}
+use Rattle.rh_pictures.proofs.Common.{IsReordered, kept, rest_means, Share, Text, Place, Read, Stage, after_read, lines_of_read, read_line, written_lines}
+use Rattle.rh_pictures.proofs.Common.{Mapper, Drew, TookLine, place_in}
 use Rattle.rh_defs.specs.Line.{longest_line}
 use Rattle.rh_figure.specs.Map.{fault_lines, map_lines, place}
 use Rattle.rh_figure.proofs.Alike.{no-order}

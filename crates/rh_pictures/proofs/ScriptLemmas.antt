@@ -1,9 +1,9 @@
 -- The lines of a script one after the other, whichever picture shows them.
 use Rattle.rh_pictures.proofs.Common.{◌≡◌, ℕ, zero, suc, ◌+◌, ◌<◌, ◌≤◌, ◌⊎◌, inl, inr, Bool, true, false, ◌||◌, List, [], ◌∷◌, ◌++◌, length, map, take, refl}
-use Rattle.rh_pictures.proofs.Common.{sym, ap, ap₂, ◌∙◌, subst, append-nil, append_assoc, arith, Option, Some, None, Ok, Err, codes, nat_le, nat_lt}
-use Rattle.rh_pictures.proofs.Common.{if◌then◌else◌, is_err, not, ◌==◌, list_any, length-take, map-append, ne_eqb, Command, TooLong, Desk, Meaning, line_means}
-use Rattle.rh_pictures.proofs.Common.{IsReordered, with_queue, ended, unended, kept, kept_means, rest_means, Share, IsShared, Text, cut, Place, Read, Stage}
-use Rattle.rh_pictures.proofs.Common.{after_read, is_mark, read_line, AreShared}
+use Rattle.rh_pictures.proofs.Common.{sym, ap, ap₂, ◌∙◌, subst, append_assoc, arith, Option, Some, None, Ok, Err, codes, nat_le, nat_lt, if◌then◌else◌, is_err}
+use Rattle.rh_pictures.proofs.Common.{not, ◌==◌, list_any, length-take, map-append, ne_eqb, Command, TooLong, Desk, Meaning, line_means, IsReordered}
+use Rattle.rh_pictures.proofs.Common.{with_queue, ended, unended, kept, kept_means, rest_means, Share, IsShared, Text, cut, Place, Read, Stage, after_read}
+use Rattle.rh_pictures.proofs.Common.{is_mark, read_line, AreShared}
 use Rattle.rh_defs.specs.declared.fault.LineFault.TheVariants.{Unended}
 use Rattle.rh_defs.specs.Line.{longest_line}
 use Rattle.rh_defs.specs.Script.{has_bad_line, is_bad}

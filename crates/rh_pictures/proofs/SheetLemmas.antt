@@ -1,7 +1,7 @@
 -- How a sheet shows a line of its script, and what a painter has taken.
 use Rattle.rh_pictures.proofs.Common.{◌≡◌, ℕ, ◌<◌, zero, suc, Bool, true, false, List, [], ◌∷◌, ◌++◌, length, length-map, take, map, refl, sym, ap, ◌∙◌}
-use Rattle.rh_pictures.proofs.Common.{append_assoc, arith, codes, ◌+◌, ◌&&◌, not, concat, decimal, Err, TooLong, Desk, kept, Share, Text, cut}
-use Rattle.rh_pictures.proofs.Common.{where_so, changes, Scene, noted, Note, escape, changes_text, figure_text, said_end, step_end, step_text, Happened, Walk, behind_read}
+use Rattle.rh_pictures.proofs.Common.{append_assoc, arith, codes, ◌+◌, ◌&&◌, not, concat, decimal, TooLong, Desk, kept, Text, cut, where_so, changes, Scene}
+use Rattle.rh_pictures.proofs.Common.{noted, Note, escape, changes_text, figure_text, said_end, step_end, step_text, Happened, Walk, behind_read}
 use Rattle.rh_pictures.proofs.Common.{fault_happened, happened_text, read_text, sheet_lines, read_line, Stage, Painter, TookPaintedLine}
 use Rattle.rh_defs.specs.Line.{longest_line}
 use Rattle.rh_figure.specs.Map.{shown_byte}

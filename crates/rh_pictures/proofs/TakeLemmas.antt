@@ -1,8 +1,7 @@
 -- What a painter has done with a line as far as it is kept, and with what stands behind the last line feed.
-use Rattle.rh_pictures.proofs.Common.{◌≡◌, ℕ, List, Bool, true, false, ◌||◌, [], ◌∷◌, ◌++◌, length, refl, sym, ap, ap₂, ◌∙◌, subst, arith, Option, Err, is_err}
-use Rattle.rh_pictures.proofs.Common.{not, ◌==◌, Command, LineFault, Desk, Meaning, line_means, IsReordered, rest_means, kept, kept_means, Share, IsShared}
-use Rattle.rh_pictures.proofs.Common.{Text, Place, Read, after_read, at_desk, Walk, behind_read, read_text, sheet_lines, Painter, TookPaintedLine, offered_as}
-use Rattle.rh_pictures.proofs.Common.{walk_in}
+use Rattle.rh_pictures.proofs.Common.{◌≡◌, ℕ, List, true, false, ◌||◌, [], ◌∷◌, ◌++◌, length, refl, sym, ap, ap₂, ◌∙◌, subst, arith, Option, Err, is_err, not}
+use Rattle.rh_pictures.proofs.Common.{◌==◌, Command, LineFault, Desk, Meaning, line_means, IsReordered, rest_means, kept, kept_means, Share, IsShared, Text}
+use Rattle.rh_pictures.proofs.Common.{Place, Read, after_read, at_desk, behind_read, read_text, sheet_lines, Painter, TookPaintedLine, offered_as, walk_in}
 use Rattle.std.proofs.lemmas.Bool.{eqb-true}
 use Rattle.rh_session.specs.Taken.{Gives}
 use Rattle.rh_session.proofs.LineLemmas.{kept_nil}

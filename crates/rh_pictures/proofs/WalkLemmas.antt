@@ -1,8 +1,7 @@
 -- Where a sheet stands, but for the order of messages to different tasks.
 use Rattle.rh_pictures.proofs.Common.{◌≡◌, Bool, true, List, refl, sym, ap, ap₂, ◌∙◌, subst, [], ◌∷◌, ◌++◌, Some, None, Ok, Err, Command, LineFault, Desk}
-use Rattle.rh_pictures.proofs.Common.{IsReordered, with_queue, step, fault_text, Share, IsShared, Text, Before, marks_of, scene_of, Place, Read, Stage}
-use Rattle.rh_pictures.proofs.Common.{after_read, AreShared, at_desk, Walk, behind_read, fault_happened, happened_text, read_text, sheet_lines, Painter}
-use Rattle.rh_pictures.proofs.Common.{walk_in}
+use Rattle.rh_pictures.proofs.Common.{IsReordered, step, fault_text, Share, IsShared, Before, marks_of, scene_of, Place, Read, Stage, after_read, AreShared}
+use Rattle.rh_pictures.proofs.Common.{at_desk, Walk, behind_read, fault_happened, happened_text, read_text, sheet_lines, Painter, walk_in}
 use Rattle.rh_defs.specs.declared.reply.Reply.{Reply}
 use Rattle.rh_defs.proofs.Steps.{order-ignored}
 use Rattle.rh_figure.specs.Scene.{before_of, is_still, no_marks}

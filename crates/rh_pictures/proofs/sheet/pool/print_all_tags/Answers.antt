@@ -1,5 +1,4 @@
-use Rattle.rh_pictures.proofs.Common.{◌≡◌, refl, ap₂, ◌∙◌, arith, flat_map, slice_get_within, holdings, left_less, left_none, scene_at, offered_as}
-use Rattle.rh_pictures.proofs.Common.{who_seen}
+use Rattle.rh_pictures.proofs.Common.{◌≡◌, refl, ap₂, ◌∙◌, arith, flat_map, slice_get_within, holdings, left_less, left_none, scene_at, offered_as, who_seen}
 use Rattle.rh_sheet.specs.Owners.{owner_tag}
 use Rattle.rh_sheet.specs.Pool.{tag_text, tags_text}
 use Rattle.rh_pictures.proofs.OwnerLemmas.{owner-pages}

@@ -1,6 +1,6 @@
-use Rattle.rh_pictures.proofs.Common.{◌≡◌, ◌++◌, [], ◌∷◌, length, ap, ap₂, sym, ◌∙◌, arith, append_assoc, codes, decimal, concat, flat_map}
-use Rattle.rh_pictures.proofs.Common.{slice_get_within, Desk, Text, owner_name, Scene, Holding, holdings, left_from, left_less, escape, escaped_byte, scene_at}
-use Rattle.rh_pictures.proofs.Common.{left_last, offered_as, who_seen}
+use Rattle.rh_pictures.proofs.Common.{◌≡◌, ◌++◌, [], ◌∷◌, length, ap, ap₂, sym, ◌∙◌, arith, append_assoc, codes, decimal, concat, flat_map, slice_get_within}
+use Rattle.rh_pictures.proofs.Common.{Desk, Text, owner_name, Scene, Holding, holdings, left_from, left_less, escape, escaped_byte, scene_at, left_last}
+use Rattle.rh_pictures.proofs.Common.{offered_as, who_seen}
 use Rattle.rh_defs.specs.Desk.{free_pages}
 use Rattle.rh_sheet.specs.Pool.{free_text, owner_sentence}
 use Rattle.rh_pictures.proofs.ElementLemmas.{elements-none, elements-some}
