@@ -1,7 +1,7 @@
 pub mod ShareLemmas
 pub mod ScriptLemmas
 pub mod MapLemmas
-pub mod Walks
+pub mod PlaceLemmas
 pub mod TextWalks
 pub mod TextPuts
 pub mod ElementLemmas

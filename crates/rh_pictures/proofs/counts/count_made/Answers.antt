@@ -1,6 +1,6 @@
 use Rattle.rh_pictures.proofs.Common.{arith, slice_get_within}
 use Rattle.rh_scene.proofs.Places.{past-end}
-use Rattle.rh_pictures.proofs.Walks.{walk-less}
+use Rattle.rh_pictures.proofs.PlaceLemmas.{walk-less}
 use Rattle.rh_pictures.proofs.counts.count_made.Goals as goal
 
 pub overflow_add-i : goal.overflow_add-i

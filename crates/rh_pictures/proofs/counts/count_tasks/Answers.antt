@@ -1,5 +1,5 @@
 use Rattle.rh_pictures.proofs.Common.{length, ap, arith, slice_get_within, rest-none, rest-some}
-use Rattle.rh_pictures.proofs.Walks.{walk-less}
+use Rattle.rh_pictures.proofs.PlaceLemmas.{walk-less}
 use Rattle.rh_pictures.proofs.counts.count_tasks.Goals as goal
 
 pub overflow_add-i : goal.overflow_add-i

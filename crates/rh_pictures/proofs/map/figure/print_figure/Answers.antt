@@ -4,7 +4,7 @@ use Rattle.rh_figure.specs.Figure.{area_panels}
 use Rattle.rh_pictures.specs.Parts.{letter_part, lines_of_module, pool_part, transfer_part}
 use Rattle.rh_pictures.specs.Inner.PartsBehind.{change_part}
 use Rattle.rh_pictures.proofs.FigureLemmas.{behind_areas, behind_changes, behind_module, figure-parts, panels-shown}
-use Rattle.rh_pictures.proofs.Walks.{lines_then, offered_line, offered_as, shown-each}
+use Rattle.rh_pictures.proofs.PlaceLemmas.{lines_then, offered_line, offered_as, shown-each}
 use Rattle.rh_pictures.proofs.map.figure.print_figure.Goals as goal
 
 pub returns : goal.returns

@@ -2,7 +2,7 @@ use Rattle.rh_pictures.proofs.Common.{◌≡◌, true, false, ◌∷◌, [], ap,
 use Rattle.rh_figure.specs.Figure.{letterboxes}
 use Rattle.rh_pictures.proofs.PostLemmas.{boxes-told}
 use Rattle.rh_pictures.proofs.UnderLemmas.{is_some, under-none, under-some}
-use Rattle.rh_pictures.proofs.Walks.{lines_then, offered_as, offered_line, offered_none, shown-each}
+use Rattle.rh_pictures.proofs.PlaceLemmas.{lines_then, offered_as, offered_line, offered_none, shown-each}
 use Rattle.rh_pictures.proofs.map.letters.print_letter_part.Goals as goal
 
 pub returns-then-not-has_letterboxes : goal.returns-then-not-has_letterboxes

@@ -8,7 +8,7 @@ use Rattle.rh_scene.specs.declared.sight.PagesOf.TheVariants as pages
 use Rattle.rh_pictures.proofs.CardLemmas.{cards-lined}
 use Rattle.rh_pictures.proofs.DrawingLemmas.{rows-are}
 use Rattle.rh_pictures.proofs.PageLemmas.{owned, owned-few, seen-fixed}
-use Rattle.rh_pictures.proofs.Walks.{lines_then, offered_line, offered_as}
+use Rattle.rh_pictures.proofs.PlaceLemmas.{lines_then, offered_line, offered_as}
 use Rattle.rh_pictures.proofs.map.modules.print_module_part.Goals as goal
 
 abbrev heading : ℕ → Text

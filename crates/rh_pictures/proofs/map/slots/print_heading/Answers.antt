@@ -4,7 +4,7 @@ use Rattle.rh_figure.specs.Figure.{note_of_slot}
 use Rattle.rh_figure.specs.Map.{name_with_mark}
 use Rattle.rh_figure.specs.Rows.{letter_at}
 use Rattle.rh_pictures.proofs.DrawingLemmas.{is_slot_of}
-use Rattle.rh_pictures.proofs.Walks.{offered_line}
+use Rattle.rh_pictures.proofs.PlaceLemmas.{offered_line}
 use Rattle.rh_pictures.proofs.map.slots.print_heading.Goals as goal
 
 abbrev text : Text → ℕ → Manner → ℕ → ℕ → ℕ → Bool → Text

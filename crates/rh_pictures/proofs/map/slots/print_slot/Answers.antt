@@ -15,7 +15,7 @@ use Rattle.rh_pictures.specs.Bands.{card_of_task}
 use Rattle.rh_pictures.proofs.CardLemmas.{cards-lined}
 use Rattle.rh_pictures.proofs.DrawingLemmas.{rows-are}
 use Rattle.rh_pictures.proofs.PageLemmas.{owned, owned-few, seen-slot}
-use Rattle.rh_pictures.proofs.Walks.{lines_then, offered_as}
+use Rattle.rh_pictures.proofs.PlaceLemmas.{lines_then, offered_as}
 use Rattle.rh_pictures.proofs.map.slots.print_slot.Goals as goal
 
 pub blocks-requires : goal.blocks-requires

@@ -1,6 +1,6 @@
 use Rattle.rh_pictures.proofs.Common.{ap, arith, flat_map, slice_get_within, rest-none, rest-some, scene_at}
 use Rattle.rh_pictures.specs.Parts.{slot_lines}
-use Rattle.rh_pictures.proofs.Walks.{left_less, left_none, walk-less}
+use Rattle.rh_pictures.proofs.PlaceLemmas.{left_less, left_none, walk-less}
 use Rattle.rh_pictures.proofs.map.slots.print_slot_part.Goals as goal
 
 pub tasks-preserved : goal.tasks-preserved

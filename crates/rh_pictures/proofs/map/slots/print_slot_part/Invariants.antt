@@ -1,6 +1,6 @@
 use Rattle.rh_pictures.proofs.Common.{◌-◌, length, drop, flat_map, lines_of_slots, scene_at}
 use Rattle.rh_pictures.specs.Parts.{slot_lines}
-use Rattle.rh_pictures.proofs.Walks.{Left}
+use Rattle.rh_pictures.proofs.PlaceLemmas.{Left}
 use Rattle.rh_pictures.proofs.map.slots.print_slot_part.Given as goal
 
 -- the slots from the place on are left

@@ -1,7 +1,7 @@
 use Rattle.rh_pictures.proofs.Common.{refl, arith, flat_map, slice_get_within, holdings, left_less, left_none, scene_at}
 use Rattle.rh_sheet.specs.Pool.{owner_squares}
 use Rattle.rh_pictures.proofs.TextWalks.{text-none, text-some}
-use Rattle.rh_pictures.proofs.Walks.{walk-less}
+use Rattle.rh_pictures.proofs.PlaceLemmas.{walk-less}
 use Rattle.rh_pictures.proofs.sheet.pool.print_all_squares.Goals as goal
 
 pub overflow_add-k : goal.overflow_add-k

@@ -3,7 +3,7 @@ use Rattle.rh_sheet.specs.Owners.{owner_tag}
 use Rattle.rh_sheet.specs.Pool.{tag_text, tags_text}
 use Rattle.rh_pictures.proofs.OwnerLemmas.{owner-pages}
 use Rattle.rh_pictures.proofs.TextWalks.{text-none, text-some}
-use Rattle.rh_pictures.proofs.Walks.{walk-less}
+use Rattle.rh_pictures.proofs.PlaceLemmas.{walk-less}
 use Rattle.rh_pictures.proofs.sheet.pool.print_all_tags.Goals as goal
 
 pub overflow_add-k : goal.overflow_add-k

@@ -4,7 +4,7 @@ use Rattle.rh_pictures.proofs.Common.{offered_as, who_seen}
 use Rattle.rh_defs.specs.Desk.{free_pages}
 use Rattle.rh_sheet.specs.Pool.{free_text, owner_sentence}
 use Rattle.rh_pictures.proofs.ElementLemmas.{elements-none, elements-some}
-use Rattle.rh_pictures.proofs.Walks.{walk-less}
+use Rattle.rh_pictures.proofs.PlaceLemmas.{walk-less}
 use Rattle.rh_pictures.proofs.sheet.pool.print_description.Goals as goal
 
 abbrev sentence : Scene → Holding → Text

@@ -1,6 +1,6 @@
 use Rattle.rh_pictures.proofs.Common.{refl, arith, flat_map, slice_get_within, left_less, left_none, slot_part, scene_at}
 use Rattle.rh_pictures.proofs.TextWalks.{text-none, text-some}
-use Rattle.rh_pictures.proofs.Walks.{walk-less}
+use Rattle.rh_pictures.proofs.PlaceLemmas.{walk-less}
 use Rattle.rh_pictures.proofs.sheet.slots.print_slots.Goals as goal
 
 pub tasks-preserved : goal.tasks-preserved

@@ -3,7 +3,7 @@ use Rattle.rh_pictures.proofs.Common.{flat_map, flat_map-append, drop_all, Panel
 use Rattle.rh_map.proofs.Left.{left_less, left_whole}
 use Rattle.rh_pictures.proofs.PageLemmas.{numbered-next}
 use Rattle.rh_pictures.proofs.TextPuts.{left_last}
-use Rattle.rh_pictures.proofs.Walks.{offered_as}
+use Rattle.rh_pictures.proofs.PlaceLemmas.{offered_as}
 use Rattle.rh_pictures.proofs.walks.areas.show_areas.Goals as goal
 
 -- the panels of one area more, and of those behind it

@@ -3,7 +3,7 @@ use Rattle.rh_pictures.proofs.Common.{Scene, AreaOf, Text, append-nil, fixed_pan
 use Rattle.rh_figure.specs.Figure.{area_panel, fixed_note, listed_pages, numbers_text, scrap_text}
 use Rattle.rh_scene.specs.declared.sight.PagesOf.TheVariants as pages
 use Rattle.rh_pictures.proofs.PageLemmas.{owned, owned-few, owned-fixed, seen-fixed}
-use Rattle.rh_pictures.proofs.Walks.{offered_as}
+use Rattle.rh_pictures.proofs.PlaceLemmas.{offered_as}
 use Rattle.rh_pictures.proofs.walks.areas.show_fixed.Goals as goal
 
 -- an area that has pages, and isn't the module area

@@ -2,7 +2,7 @@ use Rattle.rh_pictures.proofs.Common.{◌≡◌, ◌<◌, ◌-◌, [], ◌∷◌
 use Rattle.rh_pictures.proofs.Common.{IsTaskSeen, scene_at}
 use Rattle.rh_pictures.proofs.CardLemmas.{flex-long, behind-are, flex-picked, flex-unpicked}
 use Rattle.rh_pictures.proofs.DrawingLemmas.{seen-same}
-use Rattle.rh_pictures.proofs.Walks.{offered_as}
+use Rattle.rh_pictures.proofs.PlaceLemmas.{offered_as}
 use Rattle.rh_pictures.specs.DrawnCards.{cards_text}
 use Rattle.rh_pictures.specs.Inner.CardsBehind.{place_behind}
 use Rattle.std.proofs.lemmas.Option.{slice_get-get_or}

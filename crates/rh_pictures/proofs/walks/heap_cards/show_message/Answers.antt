@@ -6,7 +6,7 @@ use Rattle.rh_figure.specs.Layout.{is_new_message}
 use Rattle.rh_scene.specs.SightMessages.{message_place}
 use Rattle.rh_pictures.specs.Inner.BandItems.{place_seen}
 use Rattle.rh_pictures.proofs.PostLemmas.{chain-is}
-use Rattle.rh_pictures.proofs.Walks.{offered_as}
+use Rattle.rh_pictures.proofs.PlaceLemmas.{offered_as}
 use Rattle.rh_pictures.proofs.walks.heap_cards.show_message.Goals as goal
 
 -- a card, by its parts

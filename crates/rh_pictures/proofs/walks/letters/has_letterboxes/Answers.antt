@@ -1,5 +1,5 @@
 use Rattle.rh_pictures.proofs.Common.{◌≡◌, ◌+◌, true, false, drop, ap, sym, refl, ◌∙◌, ◌||◌, list_any, Task, has_letters_in}
-use Rattle.rh_pictures.proofs.Walks.{walk-off, walk-on, walk-to}
+use Rattle.rh_pictures.proofs.PlaceLemmas.{walk-off, walk-on, walk-to}
 use Rattle.rh_pictures.proofs.walks.letters.has_letterboxes.Goals as goal
 
 pub returns-then-has_letters : goal.returns-then-has_letters

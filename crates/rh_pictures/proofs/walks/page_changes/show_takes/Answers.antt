@@ -3,7 +3,7 @@ use Rattle.rh_figure.specs.Changes.{takes_text}
 use Rattle.rh_map.proofs.Left.{left_less, left_none}
 use Rattle.rh_pictures.proofs.ElementLemmas.{parts-both}
 use Rattle.rh_pictures.proofs.TextWalks.{text-none, text-some}
-use Rattle.rh_pictures.proofs.Walks.{walk-less}
+use Rattle.rh_pictures.proofs.PlaceLemmas.{walk-less}
 use Rattle.rh_pictures.proofs.walks.page_changes.show_takes.Goals as goal
 
 pub overflow_add-k : goal.overflow_add-k

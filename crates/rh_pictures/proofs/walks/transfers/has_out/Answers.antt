@@ -1,7 +1,7 @@
 use Rattle.rh_pictures.proofs.Common.{◌≡◌, ℕ, ◌+◌, Bool, true, false, List, drop, ap, sym, refl, ◌∙◌, ◌==◌, flat_map, list_any, Task, has_id}
 use Rattle.rh_defs.specs.Records.{out_id}
 use Rattle.rh_pictures.proofs.TransferLemmas.{out-step, outs}
-use Rattle.rh_pictures.proofs.Walks.{walk-off, walk-on, walk-to}
+use Rattle.rh_pictures.proofs.PlaceLemmas.{walk-off, walk-on, walk-to}
 use Rattle.rh_pictures.proofs.walks.transfers.has_out.Goals as goal
 
 abbrev out_of : ℕ → List Task → Bool

@@ -1,6 +1,6 @@
 use Rattle.rh_pictures.proofs.Common.{◌≡◌, ◌+◌, Bool, true, false, List, length, drop, ap₂, sym, refl, ◌∙◌, ◌==◌, ◌||◌, not, flat_map, Task, Incoming, Outgoing}
 use Rattle.rh_pictures.proofs.TransferLemmas.{are_some, ins, outs, some-here, some-past}
-use Rattle.rh_pictures.proofs.Walks.{walk-off, walk-on, walk-to}
+use Rattle.rh_pictures.proofs.PlaceLemmas.{walk-off, walk-on, walk-to}
 use Rattle.rh_pictures.proofs.walks.transfers.has_transfers.Goals as goal
 
 abbrev some_of : List Task → Bool

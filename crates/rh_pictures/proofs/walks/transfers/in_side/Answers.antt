@@ -1,7 +1,7 @@
 use Rattle.rh_pictures.proofs.Common.{◌≡◌, ℕ, ◌+◌, List, Option, Some, None, drop, ap, sym, refl, ◌∙◌, ◌==◌, find, flat_map, option_map, Task, in_item, in_id}
 use Rattle.rh_pictures.proofs.Common.{Side, has_id}
 use Rattle.rh_pictures.proofs.TransferLemmas.{ins, side-told, side-untold}
-use Rattle.rh_pictures.proofs.Walks.{walk-off, walk-on, walk-to}
+use Rattle.rh_pictures.proofs.PlaceLemmas.{walk-off, walk-on, walk-to}
 use Rattle.rh_pictures.proofs.walks.transfers.in_side.Goals as goal
 
 abbrev in_of : ℕ → List Task → Option Side

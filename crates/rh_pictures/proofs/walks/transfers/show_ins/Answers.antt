@@ -3,7 +3,7 @@ use Rattle.rh_map.proofs.Left.{left_less, left_none}
 use Rattle.rh_pictures.proofs.TransferLemmas.{ins-flat}
 use Rattle.rh_pictures.proofs.TextPuts.{left_from}
 use Rattle.rh_pictures.proofs.TextWalks.{text-none, text-some}
-use Rattle.rh_pictures.proofs.Walks.{offered_as, walk-less}
+use Rattle.rh_pictures.proofs.PlaceLemmas.{offered_as, walk-less}
 use Rattle.rh_pictures.proofs.walks.transfers.show_ins.Goals as goal
 
 pub tasks-init : goal.tasks-init

@@ -1,7 +1,7 @@
 use Rattle.rh_pictures.proofs.Common.{ap, form_text, offered_as, refl, ◌∙◌}
 use Rattle.rh_figure.specs.Cards.{PostCard}
 use Rattle.rh_pictures.proofs.BandLemmas.{card-same}
-use Rattle.rh_pictures.proofs.sheet.bands.FormCardArtist.message_card.Goals as goal
+use Rattle.rh_pictures.proofs.sheet.bands.BandFormCardArtist.message_card.Goals as goal
 
 pub returns : goal.returns
 returns g c =
