@@ -2,12 +2,13 @@
 use Rattle.rh_heap.proofs.Common.{◌≡◌, ℕ, ◌+◌, ◌<◌, ◌≤◌, ◌≢◌, inl, inr, Bool, true, false, List, [], ◌∷◌, ◌++◌, length, take, refl, sym, ap, subst, ◌∙◌}
 use Rattle.rh_heap.proofs.Common.{append_assoc, append-nil, arith, word, total, Used, Hole, Heap, IsTidy, size_of, base, segment_at, Spells, HasRoom, LinksTo}
 use Rattle.rh_heap.proofs.Common.{last_link, last_link-append, HasRoom-from_tidy, HasRoom-append, no_segments, tidy_before, tidy_behind_used, tidy_front}
-use Rattle.rh_heap.proofs.Common.{total-append, listed, Reached, FoundSegment, a_gap, no_gap, Spot}
+use Rattle.rh_heap.proofs.Common.{total-append, listed, Reached, FoundBlock, FoundSegment, hole_here, used_here, a_gap, no_gap, Spot}
 use Rattle.std.proofs.lemmas.List.{take-append-le, take_all, append_cancel_left}
 use Rattle.rh_defs.specs.Heap as heap
 use Rattle.rh_defs.proofs.HeapLaws.{link_ahead}
 use Rattle.rh_heap.specs.Listed.{from_cut}
 use Rattle.rh_heap.specs.Inner.ListedBefore.{HasListed}
+use Rattle.rh_heap.specs.Inner.SegmentsAround.{Around}
 use Rattle.rh_heap.proofs.WalkLaws.{leads_here, stands}
 use Rattle.rh_heap.specs.declared.layout.Segment.{Segment}
 
@@ -96,6 +97,67 @@ next_segment_at b at h link low from place next r (Hole n ∷ ys) e s k lt =
       behind = omega arith;
       inside = omega arith;
     }) refl
+
+-- ---- the hole behind a used segment
+
+behind_used : {b : List ℕ} {at : ℕ} {h : Heap} {from place next : ℕ} {passed : List heap.Segment} {bs : List ℕ} {ys : List heap.Segment}
+    → NextSegment b at h from place next passed (Used bs ∷ ys) → Reached at h from (place + (4 + length bs)) from (place + (4 + length bs))
+behind_used (next_used _ _ off read fits least r e) = r
+
+abbrev pub hole_there : ℕ → ℕ → ℕ → Spot
+hole_there place size from = record { place = place; size = size; used = false; from = from; low = place; link = from }
+
+-- what is known of a hole to which a link leads
+pub record HoleThere (b : List ℕ) (at : ℕ) (h : Heap) (place from : ℕ) : Type 0 where
+  pub room : place + 8 ≤ base h
+  pub around : (size : ℕ) → size ≡ word b (at + (place + 4)) → Around at h place (hole_there place size from)
+
+met_hole : (b : List ℕ) (at : ℕ) (h : Heap) (from place next : ℕ) (r : Reached at h from place from place) (rest : List heap.Segment) → r.rest ≡ rest
+    → NextSegment b at h from place next (r.front ++ r.gap) rest → next ≡ place → HoleThere b at h place from
+met_hole b at h from place next r [] er x here = elim x [ ]
+met_hole b at h from place next r (Used bs ∷ ys) er (next_used _ _ off read fits least r' e) here = absurd (off here)
+met_hole b at h from place next r (Hole n ∷ ys) er (next_hole _ _ there read fits least r' e) here = record {
+  room = omega arith;
+  around = λ size es. let is : size ≡ n = es ∙ read in record {
+    met = record {
+      reached = r;
+      here = Hole n;
+      after = ys;
+      rest_is = er;
+      here_is = hole_here n is;
+      size_fits = omega arith;
+      least = omega arith;
+    };
+    from_on = omega arith;
+    up_to = omega arith;
+  };
+}
+
+pub hole_behind : (b : List ℕ) (at : ℕ) (h : Heap) (address : ℕ) (spot : Spot) (target next : ℕ) → Spells b at h → FoundBlock at h address spot
+    → LinksTo b at (at + spot.from) next → spot.place + spot.size ≡ target → next ≡ target → target < base h → HoleThere b at h target spot.from
+hole_behind b at h address spot target next s f links ends here inside =
+    let least = f.least in let size = f.size_is in
+    let on = next_segment_at b at h spot.link spot.low spot.from spot.place next f.reached (Used f.bytes ∷ f.after) f.rest_is s links (omega arith) in
+    let place : spot.place + (4 + length f.bytes) ≡ target = omega arith in
+    let r = subst (λ p. Reached at h spot.from p spot.from p) place (behind_used on) in
+    met_hole b at h spot.from target next r r.rest refl (next_segment_at b at h spot.from target spot.from target next r r.rest refl s links inside) here
+
+-- a block's segment is the one round its place
+pub block_around_place : (at : ℕ) (h : Heap) (address : ℕ) (spot : Spot) (target : ℕ) → FoundBlock at h address spot → spot.place ≡ target
+    → Around at h target (record spot { used = true })
+block_around_place at h address spot target f e = record {
+  met = record {
+    reached = f.reached;
+    here = Used f.bytes;
+    after = f.after;
+    rest_is = f.rest_is;
+    here_is = used_here f.bytes f.size_is;
+    size_fits = f.size_fits;
+    least = f.least;
+  };
+  from_on = omega arith;
+  up_to = let least = f.least in omega arith;
+}
 
 -- a segment as it is listed
 abbrev pub at_place : ℕ → ℕ → Bool → Segment

@@ -1,7 +1,7 @@
 //! Calls on a heap beside which a map of its segments' beginnings is kept: a block is found by one bit, and the hole
 //! before it by the bits below. Their answers and what they leave in the heap's bytes are those of the calls that walk.
 ghost use Rattle.std.specs.Prelude.{◌≡◌, ◌≢◌, ℕ, ◌+◌, ◌*◌, ◌/◌, ◌%◌, ◌^◌, ◌<◌, ◌≤◌, length, true, false, None};
-ghost use Rattle.std.specs.Prelude.{MatchOption, MatchResult, OnErr, is_some, ok_or};
+ghost use Rattle.std.specs.Prelude.{IfSome, MatchOption, MatchResult, OnErr, is_some, ok_or};
 ghost use Rattle.rh_defs.specs.Bytes.{word};
 ghost use Rattle.rh_defs.specs.Memory.{Memory, IsOpen, bytes};
 ghost use Rattle.rh_defs.specs.Chain.{no_answer};
@@ -10,7 +10,7 @@ ghost use Rattle.rh_defs.specs.Heap.{released_at, resize_block, need_at};
 ghost use Rattle.rh_heap.specs.HeapSpans.{IsSpan, OnlySpan, bytes_in, heap_in};
 ghost use Rattle.rh_heap.specs.HeapCalls.{LeavesHeap};
 ghost use Rattle.rh_heap.specs.Claims.{Took};
-ghost use Rattle.rh_heap.specs.Segments.{FoundBlock};
+ghost use Rattle.rh_heap.specs.Segments.{FoundBlock, FoundSegment};
 ghost use Rattle.rh_store.specs.Starts.{bit, IsIndex};
 ghost use Rattle.rh_heap.specs.HeapStarts.{LinkBelow};
 ghost use Rattle.rh_heap.specs.Inner.StartNotes.{Noted};
@@ -139,6 +139,38 @@ pub fn locate_in<S: Words>(store: &S, span: Span, starts: &[u64], address: usize
     } else {
         None
     }
+}
+
+/// The segment that begins at a place, where the last used one up to there begins or ends at it. `None` tells nothing.
+pub fn segment_in<S: Words>(store: &S, span: Span, starts: &[u64], target: usize) -> Option<Spot>
+    requires span { IsSpan (S.memory store.now) span }
+    requires starts { IsIndex starts.now (heap_in (S.memory store.now) span) }
+    ensures { IfSome result (λ spot. FoundSegment span.at (heap_in (S.memory store.now) span) target spot) }
+{
+    if target < HEAP_FIRST || read(store, span, HEAP_BASE) <= target {
+        return None;
+    }
+    let Some(k) = last_up_to(starts, USED, target / HEAP_UNIT) else {
+        return None;
+    };
+    let block = spot_at(store, span, starts, HEAP_UNIT * k);
+    if block.place == target {
+        return Some(Spot {
+            used: true,
+            ..block
+        });
+    }
+    if block.place + block.size != target || follow(store, span, block.from) != target {
+        return None;
+    }
+    Some(Spot {
+        place: target,
+        size: read(store, span, target + HOLE_SIZE),
+        used: false,
+        from: block.from,
+        low: target,
+        link: block.from,
+    })
 }
 
 /// The bytes of the block at an address. Refused (`NotABlock`) exactly where no block begins there. (OS_Heap 6.)

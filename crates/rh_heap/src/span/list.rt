@@ -1,15 +1,32 @@
 //! The segments of a heap one after the other, many at once.
-ghost use Rattle.std.specs.Prelude.{◌≡◌};
+ghost use Rattle.std.specs.Prelude.{◌≡◌, None, MatchOption};
+ghost use Rattle.rh_defs.specs.Heap.{segment_at};
 ghost use Rattle.rh_heap.specs.HeapSpans.{IsSpan, heap_in};
 ghost use Rattle.rh_heap.specs.Listed.{segments_from};
+ghost use Rattle.rh_heap.specs.Segments.{FoundSegment};
 
 use crate::layout::{HOLE_SIZE, Segment};
 use crate::span::Span;
-use crate::span::segments::find_segment;
+use crate::span::indexed::segment_in;
+use crate::span::segments::{Spot, find_segment};
 use crate::span::words::{follow, read};
 use arrayvec::ArrayVec;
 use rh_defs::sizes::{HEAP_BASE, SEGMENTS_AT_ONCE};
 use rh_store::Words;
+
+/// The segment that begins at a place, by the map that the store keeps of the heap, and else by a walk.
+fn first_segment<S: Words>(store: &S, span: Span, place: usize) -> Option<Spot>
+    requires { IsSpan (S.memory store.now) span }
+    ensures { MatchOption result (segment_at place (heap_in (S.memory store.now) span) ≡ None)
+        (λ spot. FoundSegment span.at (heap_in (S.memory store.now) span) place spot) }
+{
+    if let Some(starts) = store.starts(span.area, span.at) {
+        if let Some(spot) = segment_in(store, span, starts, place) {
+            return Some(spot);
+        }
+    }
+    find_segment(store, span, place)
+}
 
 /// As many segments as are told at a time in order of place, from the one that begins at `place` on; none where none
 /// begins there.
@@ -22,7 +39,7 @@ pub fn segments_from<S: Words>(
     ensures { result.items ≡ segments_from place (heap_in (S.memory store.now) span) }
 {
     let mut segments = ArrayVec::new();
-    let Some(spot) = find_segment(store, span, place) else {
+    let Some(spot) = first_segment(store, span, place) else {
         return segments;
     };
     let base = read(store, span, HEAP_BASE);
