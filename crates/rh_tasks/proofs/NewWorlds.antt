@@ -7,14 +7,14 @@ use Rattle.rh_defs.specs.Post as post
 use Rattle.rh_defs.specs.Runs.{start_with}
 use Rattle.rh_defs.specs.Laws.{IsStart}
 use Rattle.rh_defs.proofs.Steps.{start-is}
-use Rattle.rh_tasks.specs.declared.next_numbers.NextNumbers.{Next}
+use Rattle.rh_tasks.specs.declared.next_numbers.NextNumbers.{NextNumbers}
 use Rattle.rh_wimp.proofs.PostCalls.{post_in-starts}
 use Rattle.rh_tasks.specs.Inner.Start.{IsFurnished}
 
-same-next : {a a' b b' : ℕ} → a ≡ a' → b ≡ b' → (let x : Next = record { handle = a; area = b } in x) ≡ (let y : Next = record { handle = a'; area = b' } in y)
+same-next : {a a' b b' : ℕ} → a ≡ a' → b ≡ b' → (let x : NextNumbers = record { handle = a; area = b } in x) ≡ (let y : NextNumbers = record { handle = a'; area = b' } in y)
 same-next p q = cc
 
-pub first-next : (n : Next) (handle : ℕ) → n.handle ≡ handle → n.area ≡ first_made → n ≡ record { handle = handle; area = first_made }
+pub first-next : (n : NextNumbers) (handle : ℕ) → n.handle ≡ handle → n.area ≡ first_made → n ≡ record { handle = handle; area = first_made }
 first-next n handle p q = same-next p q
 
 module _ {m : Memory} {pages : ℕ} (f : IsFurnished m pages) (files : FileList) (handle ref : ℕ) where

@@ -11,7 +11,7 @@ use Rattle.rh_defs.specs.Commands.{repeat}
 use Rattle.rh_wimp.specs.QueueCalls.{LeavesChains}
 use Rattle.rh_tasks.specs.declared.seat.SentLetter.{SentLetter}
 use Rattle.rh_tasks.specs.View.{last_of}
-use Rattle.rh_tasks.specs.declared.next_numbers.NextNumbers.{Next}
+use Rattle.rh_tasks.specs.declared.next_numbers.NextNumbers.{NextNumbers}
 use Rattle.rh_tasks.specs.WorldLetters.{from_last, again}
 use Rattle.rh_tasks.proofs.Chains.{answered, answer-refused}
 use Rattle.rh_tasks.proofs.Posts.{is-post, has-entry}
@@ -30,7 +30,7 @@ unfolding post_send
 post_send-ref free l post p e = sent-ref _ _ _ post.next_ref p e
 
 -- what is shown of a world that stays
-pub same-shown : {m n : Memory} {seats seats' : List Seat} {queue queue' : Chains} (made : List MadeArea) (files : FileList) (next : Next)
+pub same-shown : {m n : Memory} {seats seats' : List Seat} {queue queue' : Chains} (made : List MadeArea) (files : FileList) (next : NextNumbers)
     (scrap : Option ScrapFile) → n ≡ m → seats' ≡ seats → queue' ≡ queue
     → shown_of n seats' made files (kept_of next queue' scrap) ≡ shown_of m seats made files (kept_of next queue scrap)
 same-shown made files next scrap p q r = rw (p, q, r) refl

@@ -20,7 +20,7 @@ use Rattle.rh_wimp.specs.PostIn.{post_in}
 use Rattle.rh_tasks.specs.declared.seat.Seat.{Seat}
 use Rattle.rh_tasks.specs.declared.seat.SentLetter.{SentLetter}
 use Rattle.rh_tasks.specs.declared.made.MadeArea.{MadeArea}
-use Rattle.rh_tasks.specs.declared.next_numbers.NextNumbers.{Next}
+use Rattle.rh_tasks.specs.declared.next_numbers.NextNumbers.{NextNumbers}
 use Rattle.rh_tasks.specs.declared.scrap.ScrapFile.{ScrapFile}
 use Rattle.rh_tasks.specs.Shown.{Shown}
 
@@ -64,11 +64,11 @@ fixed_pages m = pages_at m 0 ∷ 0 ∷ pages_at m 2 ∷ pages_at m 3 ∷ pages_a
 
 -- what is kept beside seats, made areas and files: the numbers given next, the queue's entries, and the scrap file
 pub record Kept : Type 0 where
-  pub next : Next
+  pub next : NextNumbers
   pub queue : Chains
   pub scrap : Option ScrapFile
 
-abbrev pub kept_of : Next → Chains → Option ScrapFile → Kept
+abbrev pub kept_of : NextNumbers → Chains → Option ScrapFile → Kept
 kept_of next queue scrap = record { next = next; queue = queue; scrap = scrap }
 
 -- the bytes of the scrap file, none where there is none

@@ -13,8 +13,8 @@ returns-in-Task g c =
 pub returns-in-Kill : goal.returns-in-Kill
 returns-in-Kill g c = rw (c.in-Kill.is) (stepped-alike (command.Kill c.in-Kill.name) _ _ _ _ _ refl refl c.kill.ensures c.answer-in-Kill.ensures)
 
-pub told-requires : goal.told-requires
-told-requires g c = ask-ranged _ (rw c.in-Ask.is at c.requires.ranged)
+pub answer_question-requires : goal.answer_question-requires
+answer_question-requires g c = ask-ranged _ (rw c.in-Ask.is at c.requires.ranged)
 
 pub returns-in-Ask : goal.returns-in-Ask
 returns-in-Ask g c = rw (c.in-Ask.is) (asked c.in-Ask.question _ _ _ _ refl (told-gives _ c.args.self.now _ _ c.answer_question.ensures c.answered.ensures)
