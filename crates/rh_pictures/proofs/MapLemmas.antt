@@ -15,7 +15,7 @@ fault_with : Bool → ℕ → Text → Desk → Share → LineFault → List Tex
 fault_with wanted n shown d s fault =
     (decimal n ++ (codes "  " ++ shown ++ [])) ∷ drop 1 (fault_lines wanted s n [] fault d)
 
-long-lines : (line : Text) → longest_line < length line → (marked : Bool) (s : Share) (p : Place)
+pub long-lines : (line : Text) → longest_line < length line → (marked : Bool) (s : Share) (p : Place)
     → lines_of_read marked s p (kept line, Err TooLong) ≡ lines_of_read marked s p (line, Err TooLong)
 unfolding fault_with kept
 long-lines line long marked s p =

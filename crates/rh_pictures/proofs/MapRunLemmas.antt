@@ -15,9 +15,9 @@ use Rattle.rh_pictures.proofs.ScriptLemmas.{TakenScript, taken-lines, taken-scri
 
 module _ {D : Type 0} {desk : D → Desk} {marked : Bool} {p : Place} {s : Mapper D} (is : Stands desk marked p s) (well : s.has_bad_line ≡ false) where
   -- the map of some complete lines
-  lines-mapped : {t : Mapper D} {text : List ℕ} (lines : List Text) → TookAll (TookLine desk) s (map kept lines) t text
+  lines-mapped : (t : Mapper D) (text : List ℕ) (lines : List Text) → TookAll (TookLine desk) s (map kept lines) t text
       → IsMap marked p (map read_line lines) text
-  lines-mapped lines took =
+  lines-mapped t text lines took =
       let all = taken-lines (map-telling marked) (Stands desk marked) was-bad (TookLine desk) (took-one desk marked) lines is took in
       record { stages = all.stages; lines = all.lines; shared = all.shared; is = all.text_is ∙ map-text marked p all.stages }
 
@@ -56,8 +56,8 @@ module _ {D : Type 0} {desk : D → Desk} {marked : Bool} {p : Place} {s : Mappe
   -- the map of the complete lines that were read
   pub mapped_so_far : {t : Mapper D} {before after : Input} {old new : Output} → Fed (TookLine desk) before after s t old new
       → MappedSoFar marked p before after old new
-  mapped_so_far fed =
-      record { bytes = fed.bytes; read = fed.read; text = fed.text; map = lines-mapped (ended fed.bytes) fed.taken; written = fed.written }
+  mapped_so_far {t} fed =
+      record { bytes = fed.bytes; read = fed.read; text = fed.text; map = lines-mapped t fed.text (ended fed.bytes) fed.taken; written = fed.written }
 
   -- the writer failed
   pub mapped_until : {before after : Input} {old new : Output} → FedUntil (TookLine desk) (TookRest desk) before after s old new
@@ -73,7 +73,7 @@ module _ {D : Type 0} {desk : D → Desk} {marked : Bool} {p : Place} {s : Mappe
         reads = map read_line w.front;
         first = inl (map read_line w.behind, ap (map read_line) w.whole ∙ map-append read_line w.front w.behind);
         text = fed.text;
-        map = lines-mapped w.front w.taken;
+        map = lines-mapped w.taker fed.text w.front w.taken;
         broken = fed.broken;
       }
       go (inr (at_end, t, w)) = record {

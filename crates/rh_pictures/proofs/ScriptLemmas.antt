@@ -401,11 +401,13 @@ module _ {X M : Type 0} (t : Telling X) (stands : X → M → Type 0) (bad : M �
           let r = ends y (kept (unended bytes)) script.taker n script.rest p.stands_on script.ended in
           let w = whole-rest t end y (unended bytes) r.stages r.lines r.shared in
           let P : Place → Type 0 = λ z. AreShared z w.whole in
+          let written : text-to-end t end x (p.stages ++ w.whole) ≡ text-of-all t x p.stages ++ text-to-end t end y w.whole =
+          split-end t end x p.stages w.whole in
           let of-lines : bad script.taker ≡ list_any is_bad (ended bytes) = p.bad_is ∙ ap₂ (λ a b. a || b) well (bad-lines (ended bytes)) in
           record {
             stages = p.stages ++ w.whole;
             lines = map-append read_of p.stages w.whole ∙ ap₂ (λ a b. a ++ b) p.lines w.lines;
             shared = shared-more (t.place_of x) p.stages w.whole p.shared (subst P (place-after t x p.stages) w.shared);
-            text_is = script.whole ∙ (ap₂ (λ a b. a ++ b) p.text_is (r.text_is ∙ sym w.text) ∙ sym (split-end t end x p.stages w.whole));
+            text_is = script.whole ∙ (ap₂ (λ a b. a ++ b) p.text_is (r.text_is ∙ sym w.text) ∙ sym written);
             bad_is = r.bad_is ∙ ap₂ (λ a b. a || not b) of-lines (kept-there (unended bytes));
           }

@@ -40,7 +40,7 @@ module _ (line : Text) (long : longest_line < length line) where
   step-kept false n reply x notes last =
       ap (λ said. concat (said ∷ changes_text (changes x) ∷ said_end ∷ figure_text x notes n ∷ step_end ∷ [])) (said-kept n reply)
 
-  happened-kept : (marked : Bool) (x : Walk) (h : Happened) → happened_text marked x (kept line) h ≡ happened_text marked x line h
+  pub happened-kept : (marked : Bool) (x : Walk) (h : Happened) → happened_text marked x (kept line) h ≡ happened_text marked x line h
   happened-kept marked x h =
       ap (λ text. where_so (is_shown marked x x.place.wanted) (opening x ++ text))
       (step-kept (h.still && not x.place.wanted) (x.place.steps + 1) h.reply h.scene (noted (x.place.steps + 1) h.scene x.notes) x.last)
