@@ -48,7 +48,7 @@ abbrev sized : ℕ → Option (List ℕ)
 sized n = Some (zeros n)
 
 a_byte_too_many : MayBeLost sized TooLong
-a_byte_too_many = (LONGEST_FILE + 1, omega (arith, length-replicate (LONGEST_FILE + 1) 0))
+a_byte_too_many = (LONGEST_FILE + 1, omega (arith, length-replicate {A = ℕ} (LONGEST_FILE + 1) 0))
 
 -- files of two bytes are too long for no one
 none_too_long : MayBeLost {F = ℕ} (λ n. Some (1 ∷ 2 ∷ [])) TooLong → ⊥
@@ -76,4 +76,4 @@ not_too_many rest many =
     absurd (omega (arith, long, size))
 
 one_too_many : HasTooMany (unread (zeros (LONGEST_FILE + 1))) (read_once [])
-one_too_many = (zeros (LONGEST_FILE + 1), omega (arith, length-replicate (LONGEST_FILE + 1) 0), sym (append-nil (zeros (LONGEST_FILE + 1))))
+one_too_many = (zeros (LONGEST_FILE + 1), omega (arith, length-replicate {A = ℕ} (LONGEST_FILE + 1) 0), sym (append-nil (zeros (LONGEST_FILE + 1))))
