@@ -1,10 +1,12 @@
 """The archive of the library for programs in C as it was built: its names, and the compiler that reads it."""
 
+import functools
 import os
 import shutil
 import subprocess
 
 import header
+from targets import HERE
 
 NAME = "vervainfile"
 PREFIX = "vf_"
@@ -15,7 +17,6 @@ MEMORY_CALLS = {"rattle_alloc", "rattle_realloc", "rattle_dealloc"}
 # The name by which programs ask for the shared library: its number goes up where one that was linked before can't run.
 SHARED = f"lib{NAME}.so.1"
 COMPILER = "cc"
-READER = "nm"
 
 
 class Fault(Exception):
@@ -29,7 +30,7 @@ def compiler():
 
 def missing():
     """What this machine lacks of the programs that tests of the library stand on."""
-    return [it for it in (compiler()[0], READER) if not shutil.which(it)]
+    return [it for it in (compiler()[0], *HERE.reader) if not shutil.which(it)]
 
 
 def path(folder):
@@ -52,37 +53,37 @@ def write_package(template, made, words):
         it.write(text)
 
 
-def symbols(made, *flags):
-    """The names that nm gives, without the version that a shared library has behind each."""
-    ran = subprocess.run([READER, "-P", *flags, made], capture_output=True, text=True, check=True)
+def symbols(made, *flags, reader=HERE.reader, program=None):
+    """The names that nm gives, without the version that a shared library has behind each. Where a program is named, it
+    is run under the reader's name."""
+    ran = subprocess.run([*reader, "-P", *flags, made], executable=program, capture_output=True, text=True, check=True)
     lines = [line for line in ran.stdout.splitlines() if line.strip() and not line.endswith(":")]
     return {line.split()[0].partition("@")[0] for line in lines}
 
 
-def look_at_symbols(top, folder):
+def look_at_symbols(top, folder, target=HERE, read=None):
     """Raises a fault where the archive gives or asks for anything but what it should; gives what can be said of it."""
-    made = path(folder)
-    given, wanted = symbols(made, "-g", "--defined-only"), set(header.exports(top))
+    made, read = path(folder), read or functools.partial(symbols, reader=target.reader)
+    given, asked, wanted = read(made, "-g", "--defined-only"), read(made, "-u") - MEMORY_CALLS, set(header.exports(top))
     if not MEMORY_CALLS <= given:
         raise Fault(f"the archive lacks {sorted(MEMORY_CALLS - given)[0]}")
     given -= MEMORY_CALLS
     if given != wanted:
         raise Fault(f"the archive gives {sorted(given ^ wanted)[0]}, or the sources do, but not both")
-    asked = symbols(made, "-u") - IMPORTS - MEMORY_CALLS
-    if asked:
-        raise Fault(f"the archive asks for {sorted(asked)[0]}")
+    if asked - IMPORTS:
+        raise Fault(f"the archive asks for {sorted(asked - IMPORTS)[0]}")
     alien = sorted(it for it in given if not it.startswith(PREFIX))
     if alien:
         raise Fault(f"the archive gives {alien[0]}, which doesn't begin with {PREFIX}")
-    look_at_shared(shared(folder), wanted)
-    return f"{len(given)} names are given, and {', '.join(sorted(symbols(made, '-u') - MEMORY_CALLS))} asked for"
+    look_at_shared(shared(folder), wanted, read)
+    return f"{len(given)} names are given, and {', '.join(sorted(asked))} asked for"
 
 
-def look_at_shared(made, wanted):
+def look_at_shared(made, wanted, read):
     """Raises a fault where the shared library gives anything but the names of the header, or asks for more."""
-    given = symbols(made, "-D", "--defined-only")
+    given = read(made, "-D", "--defined-only")
     if given != wanted:
         raise Fault(f"{SHARED} gives {sorted(given ^ wanted)[0]}, or the sources do, but not both")
-    asked = symbols(made, "-D", "-u") - IMPORTS
+    asked = read(made, "-D", "-u") - IMPORTS
     if asked:
         raise Fault(f"{SHARED} asks for {sorted(asked)[0]}")

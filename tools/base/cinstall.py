@@ -2,15 +2,19 @@
 
 import glob
 import os
+import platform
 import re
 import shutil
 import sys
 
 import archive
+from targets import HERE, OTHERS
 
 # Where everything goes where no word says so.
 PREFIX = "/usr/local"
-WORDS = ("PREFIX", "DESTDIR")
+WORDS = ("PREFIX", "DESTDIR", "MACHINE")
+# The machine that the library of no other is for, as it names itself.
+OWN = "x86_64"
 NAME = archive.NAME
 SHARE = f"share/{NAME}"
 CMAKE = f"lib/cmake/{NAME}"
@@ -24,12 +28,13 @@ class Refused(Exception):
     """Why nothing is installed."""
 
 
-def copies(top, folder):
+def copies(top, folder, target):
     """What is copied as it is: where it goes below the prefix, and where it stands."""
+    built = target.folder(folder)
     made = {
         f"include/{NAME}.h": f"{folder}/{NAME}.h",
-        f"lib/lib{NAME}.a": archive.path(folder),
-        f"lib/{archive.SHARED}": archive.shared(folder),
+        f"lib/lib{NAME}.a": archive.path(built),
+        f"lib/{archive.SHARED}": archive.shared(built),
         f"{CMAKE}/{NAME}-config.cmake": f"{top}/{CONFIG}",
         f"{SHARE}/python/{NAME}.py": f"{top}/python/{NAME}.py",
     }
@@ -46,11 +51,21 @@ def version_in(folder):
         return VERSION.search(it.read())[1]
 
 
-def install(top, folder, prefix, destdir=""):
+def target_of(machine):
+    """The machine of a name in the kit, or for none the one that this runs on."""
+    if machine in OTHERS:
+        return OTHERS[machine]
+    here = platform.machine()
+    if machine or here != OWN and not any(it.startswith(f"{here}-") for it in OTHERS):
+        raise Refused(f"there is no library for {machine or here}")
+    return next((OTHERS[it] for it in OTHERS if it.startswith(f"{here}-")), HERE)
+
+
+def install(top, folder, prefix, destdir="", target=HERE):
     """Puts all of it below the prefix, and that below another folder where one is named; gives the paths from there."""
     if not os.path.isabs(prefix):
         raise Refused(f"PREFIX is {prefix}, and has to begin with /")
-    made, to = copies(top, folder), f"{destdir}{prefix}"
+    made, to = copies(top, folder, target), f"{destdir}{prefix}"
     lost = sorted(it for it in made.values() if not os.path.isfile(it))
     if lost:
         raise Refused(f"{lost[0]} isn't there")
@@ -76,11 +91,12 @@ def main(top, words):
     folder = f"{top}/{'lib' if is_built else 'dist/lib'}"
     given = dict(it.split("=", 1) for it in words if it.partition("=")[0] in WORDS)
     if len(given) != len(words) - is_built:
-        print(f"clib: install takes --built, PREFIX=.. and DESTDIR=.., and not {' '.join(words)}", file=sys.stderr)
+        print(f"clib: install takes --built, PREFIX=.., DESTDIR=.. and MACHINE=.., and not {' '.join(words)}",
+              file=sys.stderr)
         return 2
-    prefix, destdir = (given.get(it, os.environ.get(it, "")) for it in WORDS)
+    prefix, destdir, machine = (given.get(it, os.environ.get(it, "")) for it in WORDS)
     try:
-        paths = install(top, folder, (prefix or PREFIX).rstrip("/"), destdir)
+        paths = install(top, folder, (prefix or PREFIX).rstrip("/"), destdir, target_of(machine))
     except (OSError, Refused) as why:
         print(f"clib: {why}", file=sys.stderr)
         return 1

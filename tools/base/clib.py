@@ -1,7 +1,9 @@
-"""The library for programs in C: the archive of all exports, its header, and what pkg-config reads."""
+"""The library for programs in C: the archive of all exports, its header, and what pkg-config reads; and the archive for
+another machine for which the kit makes code."""
 
 import contextlib
 import copy
+import functools
 import os
 import shutil
 import subprocess
@@ -13,21 +15,25 @@ import kept
 import kit
 import libraries
 import page
-from archive import MEMORY_CALLS, NAME, PREFIX, SHARED, Fault, look_at_symbols, write_package
+from archive import MEMORY_CALLS, NAME, PREFIX, SHARED, Fault, look_at_symbols, symbols, write_package
+from targets import HERE
 
 FOLDER = "lib"
 LOG = "clib.log"
 # The tools by which an archive is built: what was built is kept under a sum of them too.
-BUILDERS = ("archive", "clib", "libraries")
-# What lib/ has, and what it is made of beside crates.
+BUILDERS = ("archive", "clib", "libraries", "targets")
+# What lib/ has, and what it is made of beside crates; and the same of another machine's folder in it.
 FILES = (f"lib{NAME}.a", f"{NAME}.h", f"{NAME}.pc", SHARED)
-PACKAGE, EXPORTS = f"c/{NAME}.pc.in", f"c/{NAME}.map"
+OTHER_FILES = (f"lib{NAME}.a", SHARED)
+PACKAGE, EXPORTS, MEMORY = f"c/{NAME}.pc.in", f"c/{NAME}.map", "c/memory.c"
 SOURCES = (header.HEADER, PACKAGE, EXPORTS)
+OTHER_SOURCES = (header.HEADER, EXPORTS, MEMORY)
 # Where a program finds all of it, seen from the file that says so: beside it.
 BESIDE = {"PREFIX": "${pcfiledir}", "LIBDIR": "${prefix}", "INCLUDEDIR": "${prefix}"}
 TOOLCHAIN = f"{kit.KIT}/toolchain/bin"
 # The kit's object with the functions by which the desk takes memory and gives it back. It lies in the archive as a
-# member of its own, so that a program which defines them itself is linked without it.
+# member of its own, so that a program which defines them itself is linked without it. The kit has none for other
+# machines: there it is compiled of MEMORY.
 ALLOCATION = "heap.pic.o"
 
 
@@ -36,30 +42,35 @@ def exporters(crates):
     return [it for it in crates if it.is_static and it.name.startswith(PREFIX) and it.name != page.CRATE]
 
 
-def archive_of(crate):
+def archive_of(crate, target):
     """Where a crate's own archive is built."""
-    return f"{crate.folder}/out/lib{crate.name}.a"
+    return f"{crate.folder}/out/{target.name and target.name + '-'}lib{crate.name}.a"
 
 
-def is_new(crate):
+def kept_as(crate, target):
+    """The name under which a crate's own archive is kept."""
+    return f"{crate.name}{target.name and '-' + target.name}"
+
+
+def is_new(crate, target):
     """Whether the archive that was built last is newer than each source that it is built from."""
-    made = archive_of(crate)
+    made = archive_of(crate, target)
     sources = [it for low in [*crate.below(), crate] for it in kit.files_of(low.folder)]
     return os.path.isfile(made) and os.path.getmtime(made) > max(map(os.path.getmtime, sources))
 
 
-def prove(crates, log):
+def prove(crates, target, log):
     """Proves each library below the crates that isn't yet, and then the crates, and builds their archives."""
     with libraries.locked([*libraries.below(crates), *crates]):
         left = libraries.unbuilt(libraries.below(crates))
         given = kit.in_lanes(libraries.tasks(left, lambda it, jobs: libraries.build(it, jobs, log)))
         lost = [it.name for it in left if not given[it.name, "library"]]
-        lost = lost or [it.name for it in crates if not compiled(it, log)]
+        lost = lost or [it.name for it in crates if not compiled(it, target, log)]
     if lost:
-        raise Fault(f"{lost[0]} is not proved, and no archive was built: {FOLDER}/{LOG} says why")
+        raise Fault(f"{lost[0]} is not proved, and no archive was built: {target.folder(FOLDER)}/{LOG} says why")
 
 
-def compiled(crate, log):
+def compiled(crate, target, log):
     """Proves a crate over the libraries below it, and compiles its exports; gives whether that was done.
 
     No archive stays of a crate that isn't proved, or whose proof stands on work that no verdict may rest on: `is_new`
@@ -69,30 +80,43 @@ def compiled(crate, log):
     crate.out = log
     os.makedirs(f"{crate.folder}/out", exist_ok=True)
     words = crate.words(["--jobs", "1"], keeps=False)
+    words += ["--target", target.name] if target.name else []
     words += ["--toolchain", f"{kit.KIT}/toolchain", "--backend", "llvm"]
-    if not crate.prove(["build", *words, "-o", f"out/lib{crate.name}.a"]):
+    if not crate.prove(["build", *words, "-o", os.path.relpath(archive_of(crate, target), crate.folder)]):
         return True
     with contextlib.suppress(FileNotFoundError):
-        os.remove(archive_of(crate))
+        os.remove(archive_of(crate, target))
     return False
 
 
-def archive(crates, made):
+def archive(top, crates, target, made):
     """Puts the objects of all crates into one archive."""
+    ar = f"{TOOLCHAIN}/llvm-ar" if target.name else "ar"
     with tempfile.TemporaryDirectory(prefix="clib-") as work:
         objects = []
         for crate in crates:
             folder = f"{work}/{crate.name}"
             os.mkdir(folder)
-            subprocess.run(["ar", "x", os.path.abspath(archive_of(crate))], cwd=folder, check=True)
+            subprocess.run([ar, "x", os.path.abspath(archive_of(crate, target))], cwd=folder, check=True)
             for it in sorted(os.listdir(folder)):
                 objects.append(f"{work}/{crate.name}-{it}")
                 os.rename(f"{folder}/{it}", objects[-1])
-        subprocess.run(["ar", "x", f"{kit.KIT}/c/liblibc_c.a", ALLOCATION], cwd=work, check=True)
-        hide(f"{work}/{ALLOCATION}")
+        objects.append(memory_calls(top, target, work))
         if os.path.exists(made):
             os.remove(made)
-        subprocess.run(["ar", "rcsD", made, *objects, f"{work}/{ALLOCATION}"], check=True)
+        subprocess.run([ar, "rcsD", made, *objects], check=True)
+
+
+def memory_calls(top, target, work):
+    """Makes the member by which the desk takes memory, and gives its path."""
+    member = f"{work}/{ALLOCATION}"
+    if target.name:
+        words = [f"--target={target.name}", "-std=c11", "-O2", "-fPIC", "-ffreestanding", "-Wall", "-Wextra", "-Werror"]
+        subprocess.run([f"{TOOLCHAIN}/clang", *words, "-c", f"{top}/{MEMORY}", "-o", member], check=True)
+    else:
+        subprocess.run(["ar", "x", f"{kit.KIT}/c/liblibc_c.a", ALLOCATION], cwd=work, check=True)
+        hide(member)
+    return member
 
 
 def hide(member):
@@ -117,32 +141,46 @@ def write_files(top):
     write_package(f"{top}/{PACKAGE}", f"{top}/{FOLDER}/{NAME}.pc", dict(BESIDE, VERSION=header.version_of(top)))
 
 
-def make_library(top):
-    """Makes lib/, and raises a fault where that can't be done or the header isn't that of the sources."""
+def make_archives(top, crates, target):
+    """Proves and compiles those of the crates whose archives aren't new, but for what was kept of them."""
+    sums = {it: kept.of_code(it, BUILDERS) for it in crates if not is_new(it, target)}
+    stale = [it for it in sums if not kept.give_file(kept_as(it, target), sums[it], archive_of(it, target))]
+    if stale:
+        names, log = ", ".join(it.name for it in stale), f"{target.folder(FOLDER)}/{LOG}"
+        print(f"clib: proving {names}, and what below isn't proved; {log} has what is said", flush=True)
+        with open(f"{top}/{log}", "w", encoding="utf-8", errors="replace") as it:
+            prove(stale, target, it)
+    for it in stale:
+        kept.keep_file(kept_as(it, target), sums[it], archive_of(it, target))
+
+
+def make_library(top, target):
+    """Makes a machine's folder, and raises a fault where that can't be done or the header isn't that of the sources."""
     faults = header.faults(top)
     if faults:
         raise Fault(f"the header and the sources differ: {faults[0]}")
-    os.makedirs(f"{top}/{FOLDER}", exist_ok=True)
+    folder = target.folder(f"{top}/{FOLDER}")
+    os.makedirs(folder, exist_ok=True)
     crates = exporters(kit.crates_of(top))
-    sums = {it: kept.of_code(it, BUILDERS) for it in crates if not is_new(it)}
-    stale = [it for it in sums if not kept.give_file(it.name, sums[it], archive_of(it))]
-    if stale:
-        names = ", ".join(it.name for it in stale)
-        print(f"clib: proving {names}, and what below isn't proved; {FOLDER}/{LOG} has what is said", flush=True)
-        with open(f"{top}/{FOLDER}/{LOG}", "w", encoding="utf-8", errors="replace") as log:
-            prove(stale, log)
-    for it in stale:
-        kept.keep_file(it.name, sums[it], archive_of(it))
-    archive(crates, f"{top}/{FOLDER}/lib{NAME}.a")
-    link_shared(top, f"{top}/{FOLDER}/lib{NAME}.a", f"{top}/{FOLDER}/{SHARED}")
-    write_files(top)
+    make_archives(top, crates, target)
+    archive(top, crates, target, f"{folder}/lib{NAME}.a")
+    link_shared(top, f"{folder}/lib{NAME}.a", f"{folder}/{SHARED}")
+    if not target.name:
+        write_files(top)
 
 
-def make(top):
-    """Makes lib/, and gives the exit status."""
+def reader_of(target):
+    """What reads the names in a machine's archive: the kit's own reader, for all machines but this one."""
+    return functools.partial(symbols, reader=("llvm-nm",), program=f"{TOOLCHAIN}/clang") if target.name else symbols
+
+
+def make(top, target=HERE):
+    """Makes lib/, or the folder of another machine in it, and gives the exit status."""
+    folder = target.folder(FOLDER)
     try:
-        make_library(top)
-        print(f"clib: {FOLDER}/lib{NAME}.a: {look_at_symbols(top, f'{top}/{FOLDER}')}")
+        make_library(top, target)
+        said = look_at_symbols(top, f"{top}/{folder}", target, reader_of(target))
+        print(f"clib: {folder}/lib{NAME}.a: {said}")
     except Fault as why:
         print(f"clib: {why}", file=sys.stderr)
         return 1

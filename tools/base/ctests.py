@@ -13,6 +13,7 @@ import threading
 import archive
 import header
 import outcome
+from targets import HERE, OTHERS
 
 STRICT = ["-Wall", "-Wextra", "-Werror"]
 C11 = ["-std=c11", *STRICT]
@@ -22,6 +23,8 @@ WAYS = {
     "checked names": ["-O2", "-DVF_CHECKED", "-DCALLS=5000"],
     "sanitizers": ["-O1", "-g", "-fsanitize=address,undefined", "-fno-sanitize-recover=all", "-DCALLS=4000"],
 }
+# The same where another machine is played by an emulator.
+EMULATED = {"as it is": ["-O2", "-DCALLS=2000"], "checked names": ["-O2", "-DVF_CHECKED", "-DCALLS=1000"]}
 # A run that hangs is ended after so many seconds.
 LONGEST = 120
 # The test that no call takes memory, the functions that it counts, and where the calls that it makes by a list stand;
@@ -34,11 +37,12 @@ SHIMMED = ["sort", "-r", "README.md"]
 
 
 class Suite:
-    """A folder with the library, what was tried over it, and what of that was not as it should be."""
+    """A folder with the library for a machine, what was tried over it, and what of that was not as it should be."""
 
-    def __init__(self, top, folder, work):
+    def __init__(self, top, folder, work, target=HERE):
         self.top, self.folder, self.work, self.tried, self.wrong = top, folder, work, 0, []
-        self.lock = threading.Lock()
+        self.compiler, self.runner = target.compiler or tuple(archive.compiler()), target.runner
+        self.target, self.ways, self.lock = target, EMULATED if target.name else WAYS, threading.Lock()
 
     def count(self):
         """Counts one more, where several calls may do so at once."""
@@ -61,9 +65,22 @@ class Suite:
     def compiled(self, what, sources, flags, made):
         """Compiles sources over the library, and gives whether that went well."""
         library = [archive.path(self.folder)] * (not {"-fsyntax-only", "-c"} & set(flags))
-        folders = [f"-I{it}" for it in (self.folder, "c/plain", "c/acorn")]
-        words = [*archive.compiler(), *flags, *folders, *sources, *library, "-o", made]
+        folders = [f"-I{it}" for it in (self.folder, "c", "c/plain", "c/acorn")]
+        words = [*self.compiler, *flags, *folders, *sources, *library, "-o", made]
         return self.ran(f"compiling {what}", words) is not None
+
+    def runs(self, what, made, *words, **how):
+        """Runs what was compiled, on its machine or what stands for one."""
+        return self.ran(what, [*self.runner, made, *words], **how)
+
+    def started_by(self, made):
+        """A program that runs what was compiled, for those who name one program alone."""
+        if not self.runner:
+            return made
+        with open(f"{made}.sh", "w", encoding="utf-8") as it:
+            it.write(f'#!/bin/sh\nexec {" ".join(self.runner)} {made} "$@"\n')
+        os.chmod(it.name, 0o755)
+        return it.name
 
     def is_true(self, what, holds):
         """Counts something that was looked at."""
@@ -94,7 +111,7 @@ def plain_object(suite, path, way):
 
 def compile_plain(suite, path, way):
     """Compiles a source in plain C in one way, once for all tests."""
-    suite.compiled(f"{path}, {way}", [path], [*C11, *WAYS[way], "-c"], plain_object(suite, path, way))
+    suite.compiled(f"{path}, {way}", [path], [*C11, *suite.ways[way], "-c"], plain_object(suite, path, way))
 
 
 def try_test(suite, path, way):
@@ -102,18 +119,22 @@ def try_test(suite, path, way):
     what, made = f"{stem(path)}, {way}", f"{suite.work}/{stem(path)}-{way.replace(' ', '-')}"
     counted = [f"-Wl,--wrap={it}" for it in GIVERS] * (path == NO_MEMORY) + ["-pthread"] * (path == THREADS)
     objects = [plain_object(suite, it, way) for it in plain(suite)]
-    if suite.compiled(what, [path, *objects], [*C11, *WAYS[way], *counted], made):
-        suite.ran(what, [made])
+    if suite.compiled(what, [path, *objects], [*C11, *suite.ways[way], *counted], made):
+        suite.runs(what, made)
 
 
 def try_archive(suite):
     """The archive gives and asks for what it should, and the header beside it is that of the sources."""
     try:
-        archive.look_at_symbols(suite.top, suite.folder)
+        archive.look_at_symbols(suite.top, suite.folder, suite.target)
         told = ""
     except (archive.Fault, subprocess.CalledProcessError) as why:
         told = str(why)
     suite.is_true(told, not told)
+
+
+def try_beside(suite):
+    """The header beside the archive is that of the sources."""
     files = [f"{suite.folder}/{archive.NAME}.h", f"{suite.top}/{header.HEADER}"]
     suite.is_true("the header isn't that of the sources", filecmp.cmp(*files, shallow=False))
 
@@ -154,14 +175,24 @@ def try_examples(suite):
         sources = [f"c/examples/{name}.c", *shims(suite)]
         if suite.compiled(f"the example {name}", sources, [*C11, "-O2", *flags[:1]], made):
             with open(said, "rb") as it:
-                suite.is_true(f"{name} prints what stands beside it", suite.ran(name, [made]) == it.read())
+                suite.is_true(f"{name} prints what stands beside it", suite.runs(name, made) == it.read())
 
 
 def try_rows(suite):
     """The worked rows are answered as they must be, by the example that runs a script."""
     made = f"{suite.work}/run_desk"
     if suite.compiled("the example run_desk", ["c/examples/run_desk.c"], [*C11, "-O2"], made):
-        suite.ran("the worked rows by run_desk", ["tools/tests/test-rows", made, "--scripts"])
+        suite.ran("the worked rows by run_desk", ["tools/tests/test-rows", suite.started_by(made), "--scripts"])
+
+
+def try_shared(suite):
+    """An example prints what stands beside it over the shared library."""
+    made, path = f"{suite.work}/names-shared", f"{suite.top}/c/examples/names.out"
+    words = [*suite.compiler, *C11, "-Ic", "c/examples/names.c", archive.shared(suite.folder), "-o", made]
+    if suite.ran("compiling names, shared", words) is not None:
+        said = suite.runs("names, shared", made, env=dict(os.environ, LD_LIBRARY_PATH=suite.folder))
+        with open(path, "rb") as it:
+            suite.is_true("names prints what stands beside it over the shared library", said == it.read())
 
 
 def try_threads(suite):
@@ -189,20 +220,33 @@ def try_shim(suite):
         suite.is_true("sort prints the same over the shim", wanted and given == wanted)
 
 
-def run_all(suite):
-    """All tests, as many side by side as there are processors; gives how many tests in C there are."""
+def run_all(suite, others):
+    """All tests in C and others, as many side by side as there are processors; gives how many tests in C there are."""
     tests = sorted(glob.glob("c/tests/*.c", root_dir=suite.top))
     # The way that costs most goes first.
-    ways = list(reversed(WAYS))
+    ways = list(reversed(suite.ways))
     with concurrent.futures.ThreadPoolExecutor(os.cpu_count()) as pool:
         for made in [pool.submit(compile_plain, suite, path, way) for way in ways for path in plain(suite)]:
             made.result()
         calls = [pool.submit(try_test, suite, path, way) for way in ways for path in tests]
-        others = (try_archive, try_calls, try_header, try_examples, try_rows, try_shim, try_threads)
         calls += [pool.submit(it, suite) for it in others]
     for it in calls:
         it.result()
     return len(tests)
+
+
+OF_ALL = (try_archive, try_examples, try_rows)
+OF_HERE = (*OF_ALL, try_beside, try_calls, try_header, try_shim, try_threads)
+OF_OTHERS = (*OF_ALL, try_shared)
+
+
+def told(suite, others, what):
+    """Runs all tests of a suite, tells what was wrong, and gives the exit status."""
+    tests = run_all(suite, others)
+    for it in suite.wrong:
+        print(it)
+    what = f"{tests} programs in C in {len(suite.ways)} ways, {what}"
+    return outcome.told(what, suite.tried * bool(tests), len(suite.wrong))
 
 
 def test(top, folder):
@@ -212,9 +256,18 @@ def test(top, folder):
         print(f"{missing[0]}: isn't installed, the library for C left out")
         return outcome.NOT_RUN
     with tempfile.TemporaryDirectory(prefix="ctests-") as work:
-        suite = Suite(top, os.path.abspath(folder), work)
-        tests = run_all(suite)
-    for it in suite.wrong:
-        print(it)
-    what = f"{tests} programs in C in {len(WAYS)} ways, header, examples and shim"
-    return outcome.told(what, suite.tried * bool(tests), len(suite.wrong))
+        return told(Suite(top, os.path.abspath(folder), work), OF_HERE, "header, examples and shim")
+
+
+def test_others(top, above):
+    """Tests what a folder with the library has for other machines, by emulators, and gives the exit status."""
+    statuses = []
+    for target in OTHERS.values():
+        missing, folder = target.missing(), target.folder(os.path.abspath(above))
+        if missing:
+            print(f"{missing[0]}: isn't installed, the library for {target.name} left out")
+            statuses.append(outcome.NOT_RUN)
+            continue
+        with tempfile.TemporaryDirectory(prefix="ctests-") as work:
+            statuses.append(told(Suite(top, folder, work, target), OF_OTHERS, f"and examples, for {target.name}"))
+    return 1 if 1 in statuses else max(statuses)

@@ -2,6 +2,7 @@
 
 import filecmp
 import hashlib
+import functools
 import os
 import shutil
 import sys
@@ -10,6 +11,7 @@ import clib
 import kit
 import page
 import program
+import targets
 
 FOLDER = "dist"
 # The sums of the sources, in the folder of what is built of them; those of the page beside those of the program.
@@ -73,17 +75,25 @@ class Part:
                 raise Stale(f"{name} is not what was built: run bin/dist")
 
 
+def library(top, crates, target, names, others):
+    """The library for programs in C, for one machine: files of these names."""
+    below = {low.name: low for it in clib.exporters(crates) for low in [*it.below(), it]}
+    folder = target.folder(clib.FOLDER)
+    files = {it: f"{folder}/{it}" for it in names}
+    build = functools.partial(clib.make, target=target)
+    return Part(top, f"{FOLDER}/{folder}", list(below.values()), ["crates.txt", *others], files, build)
+
+
 def parts_of(top):
-    """The program, the library for programs in C, and the page."""
+    """The program, the library for programs in C for each machine, and the page."""
     crates = kit.crates_of(top)
     web = page.exporter(crates)
     main = program.named(crates)
     made = {program.NAME: f"crates/{program.NAME}/out/{program.NAME}"}
-    below = {low.name: low for it in clib.exporters(crates) for low in [*it.below(), it]}
-    archive = {it: f"{clib.FOLDER}/{it}" for it in clib.FILES}
     return [
         Part(top, FOLDER, [*main.below(), main], ["crates.txt"], made, program.main),
-        Part(top, f"{FOLDER}/{clib.FOLDER}", list(below.values()), ["crates.txt", *clib.SOURCES], archive, clib.make),
+        library(top, crates, targets.HERE, clib.FILES, clib.SOURCES),
+        *(library(top, crates, it, clib.OTHER_FILES, clib.OTHER_SOURCES) for it in targets.OTHERS.values()),
         Part(top, FOLDER, [*web.below(), web], ["crates.txt", *page.sources(top)], {page.NAME: page.MADE}, page.make,
              PAGE_SOURCES),
     ]

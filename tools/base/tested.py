@@ -40,11 +40,12 @@ def built_here(top):
 
 @dataclasses.dataclass(frozen=True)
 class Part:
-    """Tests that run by one command. Those that need a browser may be left out anywhere; some are timed, and run alone."""
+    """Tests that run by one command. Those that need a browser or an emulator may be left out anywhere; some are timed,
+    and run alone."""
 
     name: str
     words: list
-    needs_browser: bool = False
+    may_lack: bool = False
     is_timed: bool = False
 
 
@@ -57,6 +58,7 @@ def parts_of(top, build, is_dist):
         Part("sheets", [f"{top}/bin/look", f"{top}/examples"]),
         *pages,
         Part("library", [f"{tests}library", build.library]),
+        Part("machines", [f"{tests}machines", build.library], True),
         Part("ports", [f"{tests}ports", build.library]),
         Part("memory", [f"{tests}program", build.program, "memory"]),
         Part("lessons", [f"{top}/bin/look", f"{top}/examples/lessons"]),
@@ -111,7 +113,7 @@ def ran(words):
 def result_of(part, is_whole):
     """Runs a part. It is well where its tests ran and passed, or where it says what the machine lacks.
 
-    Of the whole no part may be left out but for want of a browser.
+    Of the whole no part may be left out but for want of a browser or an emulator.
     """
     start = time.monotonic()
     try:
@@ -121,7 +123,7 @@ def result_of(part, is_whole):
     lines = said.splitlines()
     left_out = tuple(it for it in lines if it.endswith(LEFT_OUT))
     tests, failed = outcome.read(lines[-1]) or (0, 0) if lines else (0, 0)
-    may_lack = part.needs_browser or not is_whole
+    may_lack = part.may_lack or not is_whole
     is_well = bool(left_out) and may_lack if status == outcome.NOT_RUN else status == 0 and tests > 0 and not failed
     return Result(part, tests, failed, is_well, left_out, said, time.monotonic() - start)
 
