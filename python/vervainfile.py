@@ -15,17 +15,26 @@
 
 What a call is refused is an exception, `Refused`, with the status's number, name and text; all is as it was then. The
 library is that of $VERVAINFILE_LIBRARY, or of the clone or the prefix that this file lies in, or the one that the
-system finds. docs/C.md and docs/DESK.md of vervainfile say what each call does.
+system finds. A notebook shows a desk as its picture, which the program `vervainfile` draws: that of
+$VERVAINFILE_PROGRAM, or of the clone or the prefix, or the first on the path. docs/C.md and docs/DESK.md of vervainfile
+say what each call does.
 """
 
 import collections
 import ctypes
 import os
+import re
+import shutil
+import subprocess
+import tempfile
 
 LIBRARY = "libvervainfile.so.1"
-# Where the library lies, seen from this file: in a clone, and below a prefix.
+# Where the library lies, seen from this file: in a clone, and below a prefix. The same of the program that draws.
 BESIDE = ("../dist/lib", "../../../lib")
+PROGRAM, PROGRAMS = "vervainfile", ("../dist/vervainfile", "../../../bin/vervainfile")
 NULL, SHORT = 32, 34
+# A desk that has taken more commands has no picture. So many bytes are spelled in one line of a script.
+MOST_DRAWN, SPELLED = 10_000, 480
 
 # The name and the text of each status, as vervainfile.h has them.
 STATUSES = {
@@ -102,6 +111,7 @@ KINDS = {"p": ctypes.c_void_p, "z": ctypes.c_size_t, "d": ctypes.c_ssize_t, "u":
 
 ANCHORS = 64
 PLAIN, DEAF, FILE = range(3)
+MANNERS = ("", "deaf", "file")
 DID = ("nothing", "fetch", "send", "refuse", "fail", "drain", "take_last", "take", "take_and_fail", "ask", "save",
        "load", "load_and_fail", "finish")
 STATES = ("open", "fetching", "draining", "asking", "done", "failed")
@@ -381,6 +391,60 @@ def _listed(kind, call):
     return [[getattr(it, name) for name, _ in kind._fields_] for it in array[:count.value]]
 
 
+def _drawing_program():
+    """The path of the program that draws, or None."""
+    here = os.path.dirname(os.path.realpath(__file__))
+    places = [os.path.join(here, it) for it in PROGRAMS]
+    beside = next(filter(os.path.isfile, places), None)
+    return shutil.which(os.environ.get("VERVAINFILE_PROGRAM") or beside or PROGRAM)
+
+
+def _lines_of(words):
+    """The lines of a script for a command's words: a put of many bytes takes several."""
+    words = [it.decode() if isinstance(it, bytes) else it for it in words]
+    if words[0] != "put":
+        return [" ".join(str(it) for it in words if it != "")]
+    name, anchor, offset, digits = words[1:]
+    pieces = range(0, len(digits), 2 * SPELLED)
+    return [f"put {name} {anchor} {offset + at // 2} {digits[at:at + 2 * SPELLED]}" for at in pieces]
+
+
+# What of a sheet is its figure: the colours, the rules for figures, what they refer to, and the last figure's pieces.
+_COLOUR = re.compile(r"(--\w+): (#\w+);")
+_COLOURED = re.compile(r"var\((--\w+)\)")
+_RULES = re.compile(r"/\* figures \*/(.*?)/\* a link to a step", re.DOTALL)
+_RULE = re.compile(r"^([^@{}/\n]+) (\{.*\})$", re.MULTILINE)
+_DEFS = re.compile(r"<defs>.*?</defs>", re.DOTALL)
+_FIGURE = re.compile(r'<div class="memory">\n(.*?)</div>', re.DOTALL)
+_PIECE = re.compile(r'<h3>(.*?)</h3>|(<svg viewBox="0 0 (\d+) (\d+)" .*?</svg>)', re.DOTALL)
+_TAG = re.compile(r"<.*?>")
+_FONT = "font-family: 'DejaVu Sans Mono', 'Liberation Mono', Menlo, Consolas, monospace"
+
+
+def _rules_of(sheet):
+    """The sheet's rules for figures, for a picture of the class `desk` alone."""
+    colours = dict(_COLOUR.findall(sheet))
+    coloured = _COLOURED.sub(lambda it: colours[it[1]], _RULES.search(sheet)[1])
+    rules = [(names.split(", "), rule) for names, rule in _RULE.findall(coloured)]
+    kept = [(names, rule) for names, rule in rules if names[0] not in ("svg", ".defs")]
+    return "\n".join(", ".join(f".desk {it}" for it in names) + f" {rule}" for names, rule in kept)
+
+
+def _svg_of(sheet):
+    """The last figure of a sheet, as one picture: its pieces one below the other."""
+    top, wide, pieces = 0, 0, []
+    for heading, drawn, width, height in _PIECE.findall(_FIGURE.findall(sheet)[-1]):
+        if heading:
+            top += 40
+            pieces.append(f'<text class="side" x="0" y="{top - 10}">{_TAG.sub("", heading)}</text>')
+        else:
+            pieces.append(drawn.replace("<svg ", f'<svg y="{top}" width="{width}" height="{height}" ', 1))
+            top, wide = top + int(height) + 4, max(wide, int(width))
+    style = f"<style>.desk text {{ {_FONT} }}\n{_rules_of(sheet)}</style>"
+    head = f'<svg xmlns="http://www.w3.org/2000/svg" class="desk" viewBox="0 0 {wide} {top}">'
+    return "\n".join([head, style, _DEFS.search(sheet)[0], *pieces, "</svg>"])
+
+
 class Desk:
     """A desk of some pages, with named files that tasks can load. `with` closes it at its end.
 
@@ -398,6 +462,8 @@ class Desk:
     >>> desk.alloc("a", 0, 1)
     Traceback (most recent call last):
     vervainfile.Refused: ANCHOR_IN_USE: the anchor has a block
+    >>> re.findall("<title>((?:used|flex).*?)</title>", desk._repr_svg_())
+    ['used &amp;8114, 12 bytes', 'flex block 0, &amp;9008, 3 bytes']
     >>> desk.close()
     >>> desk.areas()
     Traceback (most recent call last):
@@ -405,8 +471,10 @@ class Desk:
     """
 
     def __init__(self, pages=64, files=None, first_handle=1, first_ref=1):
-        self._desk = _Desk()
-        for name, data in (files or {}).items():
+        self._desk, self._pages, self._files = _Desk(), pages, files or {}
+        # The words of all commands so far, of which the picture is drawn: the program begins with handle and ref 1.
+        self._done = [] if (first_handle, first_ref) == (1, 1) else None
+        for name, data in self._files.items():
             self._do("file", *_text(name), *_text(data))
         self._do("open", pages, first_handle, first_ref)
 
@@ -423,15 +491,47 @@ class Desk:
         """Gives all memory back. A desk that is closed stays so."""
         self._do("close")
 
-    def _do(self, name, *arguments):
+    def _do(self, name, *arguments, line=()):
+        """Makes a call, and keeps the words of the command that it is."""
         _done(f"vf_desk_{name}", ctypes.byref(self._desk), *arguments)
+        self._keep(line)
 
-    def _tell(self, name, *arguments):
-        return _told(ctypes.c_uint32, f"vf_desk_{name}", ctypes.byref(self._desk), *arguments)
+    def _tell(self, name, *arguments, line=()):
+        """The same of a call that tells a number."""
+        told = _told(ctypes.c_uint32, f"vf_desk_{name}", ctypes.byref(self._desk), *arguments)
+        self._keep(line)
+        return told
+
+    def _keep(self, line):
+        if line and self._done is not None:
+            self._done.append(line)
+            if len(self._done) > MOST_DRAWN:
+                self._done = None
+
+    def _repr_svg_(self):
+        """The picture of all memory as it is, for a notebook, with what the last command has changed.
+
+        None where no program that draws is found, after more than 10,000 commands, and where the first handle or ref
+        isn't 1.
+        """
+        program = _drawing_program()
+        if self._done is None or not program:
+            return None
+        lines = [line for words in self._done for line in _lines_of(words)] or ["areas"]
+        script = "\n".join([*lines[:-1], "#picture", lines[-1], ""])
+        with tempfile.TemporaryDirectory(prefix="vervainfile-") as folder:
+            words = []
+            for number, (name, data) in enumerate(self._files.items()):
+                with open(os.path.join(folder, str(number)), "wb") as it:
+                    it.write(_text(data)[0])
+                words.append(f"{name}={it.name}")
+            made = [program, "draw", "--marked", "--pages", str(self._pages), "-", *words]
+            sheet = subprocess.run(made, input=script.encode(), capture_output=True, check=False).stdout.decode()
+        return _svg_of(sheet) if _FIGURE.search(sheet) else None
 
     def line(self, text):
         """Takes a line of a script, and gives its reply, without the line feed at its end."""
-        self._do("line", *_text(text))
+        self._do("line", *_text(text), line=(text,))
         room, length = 4096, ctypes.c_size_t()
         while True:
             to = (ctypes.c_uint8 * room)()
@@ -449,20 +549,20 @@ class Desk:
 
     def task(self, name, buffer, manner=PLAIN):
         """Wimp_Initialise: starts a task, PLAIN, DEAF or FILE, and tells its handle."""
-        return self._tell("task", *_text(name), buffer, manner)
+        return self._tell("task", *_text(name), buffer, manner, line=("task", name, buffer, MANNERS[manner]))
 
     def kill(self, name):
         """Wimp_CloseDown."""
-        self._do("kill", *_text(name))
+        self._do("kill", *_text(name), line=("kill", name))
 
     def save(self, name, anchor, to, leaf):
         """Message_DataSave: offers a block to another task, and tells the id of the transfer."""
-        return self._tell("save", *_text(name), anchor, *_text(to), *_text(leaf))
+        return self._tell("save", *_text(name), anchor, *_text(to), *_text(leaf), line=("save", name, anchor, to, leaf))
 
     def poll(self, name):
         """Wimp_Poll: takes the task's next message, does what it asks for, and tells both."""
         event = _Event()
-        self._do("poll", *_text(name), ctypes.byref(event))
+        self._do("poll", *_text(name), ctypes.byref(event), line=("poll", name))
         told = Event(*(getattr(event, it) for it in Event._fields))
         return told._replace(did=DID[event.did], refusal=STATUSES[event.refusal][0] if event.refusal else "")
 
@@ -474,81 +574,82 @@ class Desk:
 
     def cancel_in(self, name, id=0):
         """Gives up a transfer that comes in, the first one for 0."""
-        self._do("cancel_in", *_text(name), id)
+        self._do("cancel_in", *_text(name), id, line=("cancel", name, "in", id or ""))
 
     def cancel_out(self, name, id=0):
         """Gives up a transfer that goes out, the first one for 0."""
-        self._do("cancel_out", *_text(name), id)
+        self._do("cancel_out", *_text(name), id, line=("cancel", name, "out", id or ""))
 
     def repeat(self, name):
         """Sends the task's last message once more, and tells its new ref."""
-        return self._tell("repeat", *_text(name))
+        return self._tell("repeat", *_text(name), line=("repeat", name))
 
     def alloc(self, name, anchor, size):
         """flex_alloc: the address of a new block, all 0."""
-        return self._tell("alloc", *_text(name), anchor, size)
+        return self._tell("alloc", *_text(name), anchor, size, line=("alloc", name, anchor, size))
 
     def load(self, name, anchor, file):
         """flex_alloc with a file's bytes."""
-        return self._tell("load", *_text(name), anchor, *_text(file))
+        return self._tell("load", *_text(name), anchor, *_text(file), line=("load", name, anchor, file))
 
     def put(self, name, anchor, offset, data):
         """Writes bytes into a block."""
-        self._do("put", *_text(name), anchor, offset, *_text(data))
+        digits = _text(data)[0].hex()
+        self._do("put", *_text(name), anchor, offset, *_text(data), line=("put", name, anchor, offset, digits))
 
     def free(self, name, anchor):
         """flex_free."""
-        self._do("free", *_text(name), anchor)
+        self._do("free", *_text(name), anchor, line=("free", name, anchor))
 
     def extend(self, name, anchor, size):
         """flex_extend."""
-        self._do("extend", *_text(name), anchor, size)
+        self._do("extend", *_text(name), anchor, size, line=("extend", name, anchor, size))
 
     def mid(self, name, anchor, offset, by):
         """flex_midextend."""
-        self._do("mid", *_text(name), anchor, offset, by)
+        self._do("mid", *_text(name), anchor, offset, by, line=("mid", name, anchor, offset, by))
 
     def claim(self, name, size):
         """OS_Heap 2: the address of a new block of the task's C heap."""
-        return self._tell("claim", *_text(name), size)
+        return self._tell("claim", *_text(name), size, line=("claim", name, size))
 
     def release(self, name, address):
         """OS_Heap 3."""
-        self._do("release", *_text(name), address)
+        self._do("release", *_text(name), address, line=("release", name, f"&{address:X}"))
 
     def resize(self, name, address, delta):
         """OS_Heap 4: where the block is then."""
-        return self._tell("resize", *_text(name), address, delta)
+        return self._tell("resize", *_text(name), address, delta, line=("resize", name, f"&{address:X}", delta))
 
     def budge(self, name, on):
         """flex_set_budge: whether budging was on."""
         was = ctypes.c_bool()
-        self._do("budge", *_text(name), on, ctypes.byref(was))
+        self._do("budge", *_text(name), on, ctypes.byref(was), line=("budge", name, "on" if on else "off"))
         return was.value
 
     def area(self, number, delta):
         """OS_ChangeDynamicArea: the bytes that were moved."""
-        return self._tell("area", number, delta)
+        return self._tell("area", number, delta, line=("area", number, delta))
 
     def make(self, most):
         """OS_DynamicArea 0: the number of a new area."""
-        return self._tell("make", most)
+        return self._tell("make", most, line=("make", most))
 
     def remove(self, number):
         """OS_DynamicArea 1."""
-        self._do("remove", number)
+        self._do("remove", number, line=("remove", number))
 
     def rma_claim(self, size):
         """OS_Module 6: the address of a new block of the module area."""
-        return self._tell("rma_claim", size)
+        return self._tell("rma_claim", size, line=("rma", "claim", size))
 
     def rma_free(self, address):
         """OS_Module 7."""
-        self._do("rma_free", address)
+        self._do("rma_free", address, line=("rma", "free", f"&{address:X}"))
 
     def rma_resize(self, address, delta):
         """OS_Module 13: where the block is then."""
-        return self._tell("rma_resize", address, delta)
+        return self._tell("rma_resize", address, delta, line=("rma", "resize", f"&{address:X}", delta))
 
     def show(self, name, anchor):
         """The bytes of a block."""

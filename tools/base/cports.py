@@ -57,9 +57,9 @@ NUMBERS = {"DID": "VF_DID_", "STATES": "VF_RECORD_"}
 class Port(ctests.Suite):
     """A suite over an installed library: `root` is the prefix as it lies below another folder."""
 
-    def __init__(self, top, folder, work):
+    def __init__(self, top, folder, program, work):
         super().__init__(top, folder, work)
-        self.dest, self.root, self.lacking = f"{work}/dest", f"{work}/dest{PREFIX}", []
+        self.program, self.dest, self.root, self.lacking = program, f"{work}/dest", f"{work}/dest{PREFIX}", []
 
     def has(self, program, what):
         """Whether the machine has a program; else what is left out is noted."""
@@ -235,7 +235,8 @@ def tables(port):
 
 def try_python(port):
     """The examples in the module and in the lessons hold, and its tables are those of the header."""
-    how = {"env": dict(os.environ, PYTHONPATH=os.path.dirname(f"{port.root}/{PYTHON}"), PYTHONDONTWRITEBYTECODE="1")}
+    how = {"env": dict(os.environ, PYTHONPATH=os.path.dirname(f"{port.root}/{PYTHON}"), PYTHONDONTWRITEBYTECODE="1",
+                       VERVAINFILE_PROGRAM=port.program)}
     for path in (f"{port.root}/{PYTHON}", "python/calls.txt", "docs/LESSONS.md"):
         said = port.ran(path, [sys.executable, "-m", "doctest", "-v", path], **how) or b""
         passed = PASSED.search(said.decode())
@@ -276,14 +277,15 @@ def run_all(port):
             port.is_true(str(why), False)
 
 
-def test(top, folder):
-    """Installs the library of a folder and tries programs over it; gives the exit status."""
+def test(top, folder, program=None):
+    """Installs the library of a folder and tries programs over it, with that of dist/ for pictures where none is named;
+    gives the exit status."""
     missing = archive.missing()
     if missing:
         print(f"{missing[0]}: isn't installed, programs over the installed library left out")
         return outcome.NOT_RUN
     with tempfile.TemporaryDirectory(prefix="cports-") as work:
-        port = Port(top, os.path.abspath(folder), work)
+        port = Port(top, os.path.abspath(folder), os.path.abspath(program or f"{top}/dist/{archive.NAME}"), work)
         run_all(port)
     for it in [*port.wrong, *port.lacking]:
         print(it)

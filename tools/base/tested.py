@@ -59,7 +59,7 @@ def parts_of(top, build, is_dist):
         *pages,
         Part("library", [f"{tests}library", build.library]),
         Part("machines", [f"{tests}machines", build.library], True),
-        Part("ports", [f"{tests}ports", build.library]),
+        Part("ports", [f"{tests}ports", build.library, build.program]),
         Part("memory", [f"{tests}program", build.program, "memory"]),
         Part("lessons", [f"{top}/bin/look", f"{top}/examples/lessons"]),
         Part("rows", [f"{tests}rows", build.program]),
