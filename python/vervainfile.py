@@ -144,7 +144,7 @@ def _words(names):
     return [(name, ctypes.c_uint32) for name in names.split()]
 
 
-_Slot = _struct(("pages", ctypes.c_size_t), ("budge", ctypes.c_bool))
+_Slot = _struct(("pages", ctypes.c_size_t), ("budge", ctypes.c_bool), ("slides", ctypes.c_uint32))
 _Desk = _struct(("at", ctypes.c_void_p), ("live", ctypes.c_bool))
 _Event = _struct(*_words("code action my_ref your_ref did count sent refusal"))
 _Block = _struct(*_words("anchor address size"))
@@ -277,11 +277,11 @@ class Slot(_Memory):
     (4104, 4120)
     >>> slot.put(1, 0, b"world")
     >>> slot.free(0)
-    >>> slot.place(1), slot.read(1, 0, 5)
-    (4104, b'world')
+    >>> slot.place(1), slot.read(1, 0, 5), slot.slides
+    (4104, b'world', 1)
     >>> slot.midextend(1, 2, -2)
-    >>> slot.size(1), slot.read(1, 0, 3), slot.claim(4000), slot.place(1), slot.pages
-    (3, b'rld', 276, 8200, 3)
+    >>> slot.size(1), slot.read(1, 0, 3), slot.claim(4000), slot.place(1), slot.pages, slot.slides
+    (3, b'rld', 276, 8200, 3, 2)
     >>> slot.budge(False)
     True
     >>> slot.claim(4096)
@@ -301,6 +301,11 @@ class Slot(_Memory):
     def pages(self):
         """How many pages the slot has."""
         return self._slot.pages
+
+    @property
+    def slides(self):
+        """How many calls have moved a block: a place holds as long as this number does."""
+        return self._slot.slides
 
     def check(self):
         """Refused where the bytes are no slot."""

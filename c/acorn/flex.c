@@ -1,6 +1,7 @@
 /*
- * flex.c: flex for pointers. All blocks lie in one slot, in memory that is mapped once and never moves. Each block has
- * one of the slot's 64 anchors; beside it stands which variable of the program's is to hold its address.
+ * flex.c: flex for pointers. Blocks lie in slots, each in memory that is mapped once and never moves. Each block has one
+ * of its slot's 64 anchors; beside it stands which variable of the program's is to hold its address. A slot is begun
+ * once those before it have all their blocks.
  */
 #define _DEFAULT_SOURCE 1
 #include "flex.h"
@@ -9,86 +10,120 @@
 #include <string.h>
 #include <sys/mman.h>
 
-enum { ROOM = 28 << 20, ANCHORS = 64 };
+enum { ROOM = 28 << 20, ANCHORS = 64, SLOTS = 64 };
 
-static uint8_t *memory;
-static struct vf_slot slot;
-static flex_ptr anchors[ANCHORS]; /* null where the slot's anchor is free */
+static struct row {
+    uint8_t *memory;
+    struct vf_slot slot;
+    uint32_t slides;           /* how often blocks had moved when the anchors were written last */
+    flex_ptr anchors[ANCHORS]; /* null where the slot's anchor is free */
+} rows[SLOTS];
+static size_t begun;
 
-/* The number of an anchor that has a block; for null a free one. ANCHORS, which no call takes, where there is none. */
-static uint32_t number_of(flex_ptr anchor)
+/* Begins one more slot without blocks, in the memory that was mapped for it before or is now. */
+static bool begin(void)
 {
-    uint32_t number = 0;
-    while (number < ANCHORS && anchors[number] != anchor)
-        number++;
-    return number;
+    const int kind = MAP_PRIVATE | MAP_ANONYMOUS | MAP_NORESERVE;
+    struct row *row = &rows[begun];
+    void *mapped = row->memory ? row->memory : mmap(NULL, ROOM, PROT_READ | PROT_WRITE, kind, -1, 0);
+    row->memory = mapped == MAP_FAILED ? NULL : (uint8_t *)mapped;
+    if (vf_flex_start(row->memory, ROOM, &row->slot) != VF_OK)
+        return false;
+    memset(row->anchors, 0, sizeof row->anchors);
+    row->slides = row->slot.slides;
+    begun++;
+    return true;
 }
 
-/* Whether a call was done. Then each anchor is rewritten, since its block may have moved. */
-static int is_done(uint32_t status)
+/* The slot of an anchor that has a block, and the anchor's number there; for null those of a free one. The number is
+ * ANCHORS, which no call takes, where there is none. */
+static struct row *find(flex_ptr anchor, uint32_t *number)
+{
+    for (size_t i = 0; i < begun; i++)
+        for (*number = 0; *number < ANCHORS; (*number)++)
+            if (rows[i].anchors[*number] == anchor)
+                return &rows[i];
+    *number = ANCHORS;
+    return &rows[0];
+}
+
+/* Whether a call was done. Then each anchor is rewritten, if a block has moved since they were written last. */
+static int is_done(struct row *row, uint32_t status)
 {
     size_t places[ANCHORS];
-    if (status != VF_OK || vf_flex_places(memory, ROOM, &slot, places, ANCHORS) != VF_OK)
+    if (status != VF_OK)
         return 0;
+    if (row->slot.slides == row->slides)
+        return 1;
+    row->slides = row->slot.slides;
+    vf_flex_places(row->memory, ROOM, &row->slot, places, ANCHORS);
     for (uint32_t number = 0; number < ANCHORS; number++)
-        if (anchors[number] && places[number])
-            *anchors[number] = memory + places[number];
+        if (row->anchors[number] && places[number])
+            *row->anchors[number] = row->memory + places[number];
     return 1;
 }
 
 void flex_init(void)
 {
-    const int kind = MAP_PRIVATE | MAP_ANONYMOUS | MAP_NORESERVE;
-    void *mapped = memory ? memory : mmap(NULL, ROOM, PROT_READ | PROT_WRITE, kind, -1, 0);
-    memory = mapped == MAP_FAILED ? NULL : (uint8_t *)mapped;
-    memset(anchors, 0, sizeof anchors);
-    vf_flex_start(memory, ROOM, &slot);
+    begun = 0;
+    begin();
 }
 
 int flex_alloc(flex_ptr anchor, int n)
 {
     size_t place;
-    uint32_t number = number_of(NULL);
-    /* A null anchor has a number as long as one is free, and the slot refuses ANCHORS. */
-    if (number_of(anchor) < ANCHORS || vf_flex_alloc(memory, ROOM, &slot, number, (size_t)n, &place) != VF_OK)
+    uint32_t number, used;
+    struct row *row = find(NULL, &number);
+    find(anchor, &used);
+    if (number == ANCHORS && begun && begun < SLOTS && begin())
+        row = find(NULL, &number);
+    if (!anchor || used < ANCHORS || vf_flex_alloc(row->memory, ROOM, &row->slot, number, (size_t)n, &place) != VF_OK)
         return 0;
-    anchors[number] = anchor;
-    *anchor = memory + place;
+    row->anchors[number] = anchor;
+    *anchor = row->memory + place;
     return 1;
 }
 
 void flex_free(flex_ptr anchor)
 {
-    uint32_t number = number_of(anchor);
-    if (is_done(vf_flex_free(memory, ROOM, &slot, number))) {
-        anchors[number] = NULL;
+    uint32_t number;
+    struct row *row = find(anchor, &number);
+    if (is_done(row, vf_flex_free(row->memory, ROOM, &row->slot, number))) {
+        row->anchors[number] = NULL;
         *anchor = NULL;
     }
 }
 
 int flex_size(flex_ptr anchor)
 {
+    uint32_t number;
     size_t size;
-    return vf_flex_size(memory, ROOM, &slot, number_of(anchor), &size) == VF_OK ? (int)size : 0;
+    struct row *row = find(anchor, &number);
+    return vf_flex_size(row->memory, ROOM, &row->slot, number, &size) == VF_OK ? (int)size : 0;
 }
 
 int flex_extend(flex_ptr anchor, int n)
 {
-    return is_done(vf_flex_extend(memory, ROOM, &slot, number_of(anchor), (size_t)n));
+    uint32_t number;
+    struct row *row = find(anchor, &number);
+    return is_done(row, vf_flex_extend(row->memory, ROOM, &row->slot, number, (size_t)n));
 }
 
 int flex_midextend(flex_ptr anchor, int at, int by)
 {
-    return is_done(vf_flex_midextend(memory, ROOM, &slot, number_of(anchor), (size_t)at, by));
+    uint32_t number;
+    struct row *row = find(anchor, &number);
+    return is_done(row, vf_flex_midextend(row->memory, ROOM, &row->slot, number, (size_t)at, by));
 }
 
 int flex_budge(int n, void **a)
 {
     size_t place, size;
-    if (!a || !is_done(vf_flex_claim(memory, ROOM, &slot, (size_t)n, &place)))
+    struct row *row = &rows[0];
+    if (!a || !is_done(row, vf_flex_claim(row->memory, ROOM, &row->slot, (size_t)n, &place)))
         return 0;
-    *a = memory + place;
-    return vf_flex_block_size(memory, ROOM, &slot, place, &size) == VF_OK ? (int)size : 0;
+    *a = row->memory + place;
+    return vf_flex_block_size(row->memory, ROOM, &row->slot, place, &size) == VF_OK ? (int)size : 0;
 }
 
 int flex_dont_budge(int n, void **a)
@@ -99,5 +134,5 @@ int flex_dont_budge(int n, void **a)
 int flex_set_budge(int newstate)
 {
     bool was;
-    return vf_flex_set_budge(&slot, newstate != 0, &was) == VF_OK && was;
+    return vf_flex_set_budge(&rows[0].slot, newstate != 0, &was) == VF_OK && was;
 }

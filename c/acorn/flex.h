@@ -1,10 +1,10 @@
 /*
- * flex.h: the flex of RISC_OSLib, over a slot of vervainfile. Compile flex.c with the program.
+ * flex.h: the flex of RISC_OSLib, over slots of vervainfile. Compile flex.c with the program.
  *
  * An anchor is a `void *` of the program's. flex writes the block's address into it, and writes it again whenever the
  * block has moved: go to a block by its anchor alone. A block moves at a call of flex_free, extend, midextend or budge.
- * Other than with Acorn's, new bytes are 0; a refused call changes nothing; there are at most 64 blocks, and 28 MiB in
- * all; an anchor may not lie in a flex block.
+ * Other than with Acorn's, new bytes are 0; a refused call changes nothing; there are at most 4,096 blocks, and 28 MiB
+ * for each 64 of them; an anchor may not lie in a flex block.
  */
 #ifndef ACORN_FLEX_H
 #define ACORN_FLEX_H
@@ -34,8 +34,8 @@ int flex_extend(flex_ptr anchor, int n);
  * 0 where there is no room or no block, or the bytes lie outside of it; else 1. */
 int flex_midextend(flex_ptr anchor, int at, int by);
 
-/* What malloc() asks where it needs more: takes `n` bytes or a few more below the blocks, which slide up for that, and
- * writes their address to `a`. They never move. Tells how many they are; 0 where there is no room, or the blocks had
+/* What malloc() asks where it needs more: takes `n` bytes or a few more below the first 64 blocks, which slide up for
+ * that, and writes their address to `a`. They never move. Tells how many they are; 0 where there is no room, or the blocks had
  * to move while budging is off. */
 int flex_budge(int n, void **a);
 

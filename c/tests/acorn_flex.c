@@ -10,9 +10,9 @@
 #define CALLS 6000
 #endif
 
-enum { ROOM = 28 << 20, ANCHORS = 64, ROUNDS = 4, MOST_CLAIMED = 100000 };
+enum { ROOM = 28 << 20, ANCHORS = 64, MOST = 64 * 64, ROUNDS = 4, MOST_CLAIMED = 100000, MANY = 150, LONGEST = 400 };
 
-static void *variables[ANCHORS + 1];
+static void *variables[MOST + 1];
 static struct flex_row row;
 
 static bool is_zero(const void *from, size_t n)
@@ -85,15 +85,60 @@ static void room_has_an_end(void)
     EXPECT(flex_extend(&p, 8) == 1 && flex_alloc(&q, ROOM - ROW_PAGE - 24) == 1 && !flex_extend(&p, 9));
     EXPECT(is_zero(q, ROOM - ROW_PAGE - 24));
     flex_init();
-    for (int i = 0; i < ANCHORS; i++)
-        EXPECT(flex_alloc(&variables[i], i) == 1);
-    EXPECT(!flex_alloc(&variables[ANCHORS], 1) && !variables[ANCHORS]);
-    for (int i = 0; i < ANCHORS; i++)
-        EXPECT(flex_size(&variables[i]) == i);
+    for (int i = 0; i < MOST; i++)
+        EXPECT(flex_alloc(&variables[i], i % LONGEST) == 1);
+    EXPECT(!flex_alloc(&variables[MOST], 1) && !variables[MOST]);
+    for (int i = 0; i < MOST; i++)
+        EXPECT(flex_size(&variables[i]) == i % LONGEST);
     EXPECT(!flex_alloc(NULL, 1) && !flex_size(NULL) && !flex_extend(NULL, 1) && !flex_midextend(NULL, 0, 1));
     flex_free(NULL);
-    flex_free(&variables[9]);
-    EXPECT(flex_alloc(&variables[ANCHORS], 1) == 1 && !flex_alloc(&variables[9], 1));
+    flex_free(&variables[900]);
+    EXPECT(flex_alloc(&variables[MOST], 1) == 1 && !flex_alloc(&variables[900], 1));
+}
+
+/* Whether each variable has its block's bytes, which lie in no other block. */
+static bool are_all(uint8_t copies[][LONGEST], const int *sizes)
+{
+    for (int i = 0; i < MANY; i++)
+        if (sizes[i] < 0 ? variables[i] != NULL
+                         : flex_size(&variables[i]) != sizes[i] || memcmp(variables[i], copies[i], (size_t)sizes[i]))
+            return false;
+    return true;
+}
+
+/* More blocks than a slot has anchors, beside plain copies of their bytes: each variable leads to its own at any time. */
+static void blocks_of_many_slots_come_and_go(int calls)
+{
+    static uint8_t copies[MANY][LONGEST];
+    static int sizes[MANY];
+    memset(variables, 0, sizeof variables);
+    memset(copies, 0, sizeof copies);
+    for (int i = 0; i < MANY; i++)
+        sizes[i] = -1;
+    flex_init();
+    for (int call = 0; call < calls; call++) {
+        uint32_t i = below(MANY);
+        int n = (int)below(LONGEST);
+        if (sizes[i] < 0 || !below(4)) {
+            EXPECT(flex_alloc(&variables[i], n) == (sizes[i] < 0));
+            sizes[i] = sizes[i] < 0 ? n : sizes[i];
+        } else if (below(5)) {
+            EXPECT(flex_extend(&variables[i], n) == 1);
+            if (n < sizes[i])
+                memset(copies[i] + n, 0, (size_t)(sizes[i] - n));
+            sizes[i] = n;
+            for (int at = 0; at < n; at++)
+                ((uint8_t *)variables[i])[at] = copies[i][at] = (uint8_t)below(256);
+        } else {
+            flex_free(&variables[i]);
+            memset(copies[i], 0, LONGEST);
+            sizes[i] = -1;
+        }
+        if (!are_all(copies, sizes)) {
+            EXPECT(!"each variable leads to its block");
+            return;
+        }
+    }
 }
 
 static void what_is_below_pushes_blocks_up(void)
@@ -237,6 +282,7 @@ int main(void)
     blocks_change_in_length();
     room_has_an_end();
     what_is_below_pushes_blocks_up();
+    blocks_of_many_slots_come_and_go(CALLS / 4);
     for (int round = 0; round < ROUNDS; round++)
         compare(CALLS / ROUNDS);
     return ended("acorn_flex");

@@ -21,6 +21,7 @@ static size_t number, other;
         EXPECT(memcmp(before, memory, ROOM) == 0);                                     \
         EXPECT(memcmp(buffer_before, buffer, sizeof buffer) == 0);                     \
         EXPECT(slot.pages == was.pages && slot.budge == was.budge);                    \
+        EXPECT(slot.slides == was.slides);                                             \
         EXPECT(number == UNSET && other == UNSET);                                     \
     } while (0)
 
@@ -98,7 +99,7 @@ static void slots_and_anchors_are_looked_at(void)
 {
     static const uint32_t bad[] = {64, 65, 256, 256 + 1, UINT32_MAX};
     start(ROOM);
-    struct vf_slot none = {0, true}, far = {SIZE_MAX, true};
+    struct vf_slot none = {0, true, 0}, far = {SIZE_MAX, true, 0};
     ALL_REFUSE(VF_NO_SLOT, memory, ROOM, &none);
     ALL_REFUSE(VF_SHORT, memory, ROOM, &far);
     for (size_t i = 0; i < sizeof bad / sizeof *bad; i++)
@@ -317,7 +318,7 @@ static void questions_take_constant_bytes(const struct flex_calls *flex)
         [256] = 'H', 'e', 'a', 'p', 0, 0, 0, 0, 16, 0, 0, 0, 0, 15, 0, 0,
         [PAGE] = 0x00, 0x80, 0, 0, 5, 0, 0, 0, 'h', 'e', 'l', 'l', 'o',
     };
-    static const struct vf_slot constant_slot = {2, true};
+    static const struct vf_slot constant_slot = {2, true, 0};
     uint8_t read[5] = {0};
     EXPECT(vf_flex_check(constant, sizeof constant, &constant_slot) == VF_OK);
     TELLS(5, flex->size(constant, sizeof constant, &constant_slot, 0, &number));
@@ -332,8 +333,37 @@ static void questions_take_constant_bytes(const struct flex_calls *flex)
     EXPECT(flex->size(constant, sizeof constant, &constant_slot, 1, &number) == VF_NO_BLOCK && number == UNSET);
 }
 
+/* The count goes up where a block that stays was moved, and a place that was told is another then. */
+static void slides_are_counted(void)
+{
+    start(ROOM);
+    slot.slides = 7;
+    EXPECT(vf_flex_start(memory, ROOM, &slot) == VF_OK && slot.slides == 0);
+    EXPECT(vf_flex_claim(memory, ROOM, &slot, 5000, &number) == VF_OK && slot.slides == 0);
+    vf_flex_alloc(memory, ROOM, &slot, 1, 10, &number);
+    EXPECT(vf_flex_alloc(memory, ROOM, &slot, 2, 10, &number) == VF_OK && slot.slides == 0);
+    EXPECT(vf_flex_extend(memory, ROOM, &slot, 2, 400) == VF_OK && slot.slides == 0);   /* nothing stands above */
+    EXPECT(vf_flex_extend(memory, ROOM, &slot, 1, 12) == VF_OK && slot.slides == 0);    /* as many whole words */
+    EXPECT(vf_flex_extend(memory, ROOM, &slot, 1, 13) == VF_OK && slot.slides == 1);
+    EXPECT(vf_flex_extend(memory, ROOM, &slot, 1, 1) == VF_OK && slot.slides == 2);
+    EXPECT(vf_flex_midextend(memory, ROOM, &slot, 1, 1, 3) == VF_OK && slot.slides == 2);
+    EXPECT(vf_flex_midextend(memory, ROOM, &slot, 1, 0, 1) == VF_OK && slot.slides == 3);
+    EXPECT(vf_flex_midextend(memory, ROOM, &slot, 2, 400, -400) == VF_OK && slot.slides == 3);
+    REFUSES(VF_NO_ROOM, vf_flex_extend(memory, ROOM, &slot, 1, ROOM));
+    EXPECT(vf_flex_claim(memory, ROOM, &slot, 10, &number) == VF_OK && slot.slides == 3);
+    EXPECT(vf_flex_resize(memory, ROOM, &slot, number, PAGE, &number) == VF_OK && slot.slides == 4);
+    EXPECT(vf_flex_release(memory, ROOM, &slot, number) == VF_OK && slot.slides == 4);
+    EXPECT(vf_flex_claim(memory, ROOM, &slot, 3 * PAGE, &number) == VF_OK && slot.slides == 5);
+    EXPECT(vf_flex_put(memory, ROOM, &slot, 1, 0, buffer, 5) == VF_OK && slot.slides == 5);
+    slot.slides = UINT32_MAX;
+    EXPECT(vf_flex_free(memory, ROOM, &slot, 1) == VF_OK && slot.slides == 0);
+    EXPECT(vf_flex_free(memory, ROOM, &slot, 2) == VF_OK && slot.slides == 0);
+    EXPECT(sizeof slot == 16 && offsetof(struct vf_slot, budge) == 8 && offsetof(struct vf_slot, slides) == 12);
+}
+
 int main(void)
 {
+    slides_are_counted();
     lengths_have_slots_or_not();
     slots_and_anchors_are_looked_at();
     blocks_come_and_go();

@@ -1,6 +1,7 @@
 /*
  * flex_random.c: random calls on a slot and on a plain row of blocks beside it. After each the answers are the same,
- * the slot's bytes are what the row stands for, and a refused call has left all of the memory.
+ * the slot's bytes are what the row stands for, a refused call has left all of the memory, and the count of slides is
+ * one more just where a block of the row stands elsewhere.
  */
 #include "expect.h"
 #include "flex_row.h"
@@ -173,14 +174,36 @@ static bool sizes(void)
            size == wanted && flex == wanted_flex;
 }
 
+/* Where the row's blocks stand, UNSET where an anchor has none. */
+static void note_places(size_t *noted)
+{
+    for (uint32_t anchor = 0; anchor < ROW_ANCHORS; anchor++)
+        if (flex_row_place(&row, anchor, &noted[anchor]) != VF_OK)
+            noted[anchor] = UNSET;
+}
+
+/* Whether the row has a block that stood elsewhere before. */
+static bool has_slid(const size_t *before_it)
+{
+    size_t now[ROW_ANCHORS];
+    note_places(now);
+    for (uint32_t anchor = 0; anchor < ROW_ANCHORS; anchor++)
+        if (before_it[anchor] != UNSET && now[anchor] != UNSET && before_it[anchor] != now[anchor])
+            return true;
+    return false;
+}
+
 static bool is_alike(void)
 {
     static bool (*const calls[])(void) = {allocs, allocs, frees,  extends, midextends, puts_bytes, reads,
                                           budges, claims, claims, claims,  releases,   resizes,    sizes,
                                           tells_places};
+    size_t stood[ROW_ANCHORS];
+    uint32_t slides = slot.slides;
     memcpy(before, memory, ROOM);
+    note_places(stood);
     return calls[below(sizeof calls / sizeof *calls)]() && flex_row_is(&row, memory, &slot) &&
-           (last == VF_OK || memcmp(before, memory, ROOM) == 0);
+           (last == VF_OK || memcmp(before, memory, ROOM) == 0) && slot.slides == slides + has_slid(stood);
 }
 
 /* Calls up to the first one that differs. */
@@ -188,7 +211,9 @@ static void compare(int calls)
 {
     count = 0;
     memset(memory, 0xa5, ROOM);
-    EXPECT(vf_flex_start(memory, len, &slot) == VF_OK);
+    EXPECT(vf_flex_start(memory, len, &slot) == VF_OK && slot.slides == 0);
+    /* The count goes on from the last number. */
+    slot.slides = UINT32_MAX - below(9);
     flex_row_start(&row, len);
     for (int call = 0; call < calls; call++)
         if (!is_alike()) {

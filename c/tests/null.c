@@ -48,7 +48,7 @@ static void mapped_calls_see_null(size_t len)
 static void slots_see_null(size_t len)
 {
     static bool was;
-    struct vf_slot slot = {1, true};
+    struct vf_slot slot = {1, true, 0};
     IS_NULL(vf_flex_start(NULL, len, &slot));
     IS_NULL(vf_flex_start(memory, len, NULL));
     IS_NULL(vf_flex_check(NULL, len, &slot));
@@ -61,7 +61,7 @@ static void slots_see_null(size_t len)
 static void calls_on_slots_see_null(const struct flex_calls *flex, size_t len)
 {
     static uint8_t byte;
-    struct vf_slot slot = {1, true}, *const it = &slot;
+    struct vf_slot slot = {1, true, 0}, *const it = &slot;
     for (int i = 0; i < 2; i++) {
         uint8_t *at = i ? memory : NULL;
         struct vf_slot *slot_or_null = i ? NULL : it;

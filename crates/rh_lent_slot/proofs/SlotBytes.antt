@@ -48,12 +48,12 @@ same_err b n l store (Err x) w e =
     let len = ap length is in
     (omega arith, is)
 
--- what is left of the memory is left of the bytes
-pub leaves_slot : {A : Type 0} (b : List ℕ) (s : LentSlot) (l : ℕ) (store : LentPagesMut) (granted : Granted (plain.Slot × A))
+-- what is left of the memory is left of the bytes, whatever is counted
+pub leaves_slot : {A : Type 0} (b : List ℕ) (s : LentSlot) (l : ℕ) (store : LentPagesMut) (n : ℕ) (granted : Granted (plain.Slot × A))
     (result : Granted A) → IsSlotBytes b s → LeavesSlotIn (lent_memory_in b s.pages l) (lent_pages_memory store) (lent s.budge) granted result
-    → LeavesSlot b store.bytes.now s (record { pages = store.pages; budge = s.budge }) granted result
+    → LeavesSlot b store.bytes.now s (record { pages = store.pages; budge = s.budge; slides = n }) granted result
 unfolding lent_pages_memory pages_memory_over area_set bytes
-leaves_slot b s l store granted result h e = record {
+leaves_slot b s l store n granted result h e = record {
   answer = e.answer;
   slot = e.slot;
   bytes = record { few = store.few; within = store.within; spells = e.still.spells };
@@ -62,12 +62,12 @@ leaves_slot b s l store granted result h e = record {
 }
 
 -- the same of a call with a signed argument, from what is said of the number that it is passed as
-pub leaves_signed : {A : Type 0} (b : List ℕ) (s : LentSlot) (l : ℕ) (store : LentPagesMut)
+pub leaves_signed : {A : Type 0} (b : List ℕ) (s : LentSlot) (l : ℕ) (store : LentPagesMut) (n : ℕ)
     (granted : ℤ → Granted (plain.Slot × A)) (result : Granted A) (d e : ℤ) → d ≡ e → IsSlotBytes b s
     → LeavesSlotIn (lent_memory_in b s.pages l) (lent_pages_memory store) (lent s.budge) (granted d) result
-    → LeavesSlot b store.bytes.now s (record { pages = store.pages; budge = s.budge }) (granted e) result
-leaves_signed b s l store granted result d e is h k =
-    leaves_slot b s l store (granted e) result h
+    → LeavesSlot b store.bytes.now s (record { pages = store.pages; budge = s.budge; slides = n }) (granted e) result
+leaves_signed b s l store n granted result d e is h k =
+    leaves_slot b s l store n (granted e) result h
     (subst (λ x. LeavesSlotIn (lent_memory_in b s.pages l) (lent_pages_memory store) (lent s.budge) (granted x) result) is k)
 
 -- a call that is refused before it does anything
@@ -106,12 +106,12 @@ begun b l store z e s =
 
 -- so the bytes have a new slot
 pub begun_slot : (store : LentPagesMut) → SpellsSlot (first_pages store.pages store.bytes.now) new_slot
-    → lent_slot_in store.bytes.now (record { pages = store.pages; budge = true }) ≡ new_slot
+    → lent_slot_in store.bytes.now (record { pages = store.pages; budge = true; slides = 0 }) ≡ new_slot
 unfolding lent_pages_memory pages_memory_over area_set bytes
 begun_slot store s = slot_now (lent_pages_memory store) (lent true) new_slot s refl
 
 pub begun_bytes : (store : LentPagesMut) → SpellsSlot (first_pages store.pages store.bytes.now) new_slot
-    → IsSlotBytes store.bytes.now (record { pages = store.pages; budge = true })
+    → IsSlotBytes store.bytes.now (record { pages = store.pages; budge = true; slides = 0 })
 begun_bytes store s = record {
   few = store.few;
   within = store.within;
@@ -119,7 +119,7 @@ begun_bytes store s = record {
 }
 
 -- budging on or off, the bytes are a slot's
-pub budged : (b : List ℕ) (s : LentSlot) (on : Bool) → IsSlotBytes b s → IsSlotBytes b (record { pages = s.pages; budge = on })
+pub budged : (b : List ℕ) (s : LentSlot) (on : Bool) → IsSlotBytes b s → IsSlotBytes b (record { pages = s.pages; budge = on; slides = s.slides })
 budged b s on h = record {
   few = h.few;
   within = h.within;

@@ -1,5 +1,6 @@
 pub mod Inner
 pub mod LentPages
 pub mod LentSlotChecks
+pub mod SlotSlides
 pub mod Slots
 pub mod Write

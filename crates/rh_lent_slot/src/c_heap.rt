@@ -4,12 +4,14 @@ ghost use Rattle.std.specs.Option.{option_map};
 ghost use Rattle.rh_defs.specs.Chain.{no_answer};
 ghost use Rattle.rh_defs.specs.Heap.{block_size, free_bytes, largest, segment_at};
 ghost use Rattle.rh_defs.specs.Slot.{heap_start, slot_claim, slot_release, slot_resize, slot_take_pages};
+ghost use Rattle.rh_lent_slot.specs.SlotSlides.{CountsSlides};
 ghost use Rattle.rh_lent_slot.specs.Slots.{IsSlotBytes, LeavesSlot, free_in, lent_slot_in};
 ghost use Rattle.rh_heap.specs.Listed.{segments_from};
 ghost use Rattle.rh_heap.specs.Segments.{piece};
 
 use crate::pages::LentPages;
 use crate::pages_mut::LentPagesMut;
+use crate::slides::slides_noted;
 use crate::slot::LentSlot;
 use arrayvec::ArrayVec;
 use rh_defs::Refusal;
@@ -24,24 +26,28 @@ impl LentSlot {
     /// where the heap is too short and budging is off, `NoRoom` where too few pages are free. (OS_Heap 2.)
     pub fn claim(&mut self, bytes: &mut [u8], n: u32) -> Result<usize, Refusal>
         requires { IsSlotBytes bytes.old self.old }
-        ensures { LeavesSlot bytes.old bytes.new self.old self.new
+        ensures left { LeavesSlot bytes.old bytes.new self.old self.new
             (slot_claim (free_in bytes.old self.old) n (lent_slot_in bytes.old self.old)) result }
+        ensures slides { CountsSlides bytes.old bytes.new self.old self.new }
     {
-        let LentSlot { pages, budge } = *self;
+        let LentSlot { pages, budge, .. } = *self;
+        let noted = self.note_lowest(bytes);
         let mut store = LentPagesMut { bytes, pages };
         let slot = Slot { area: LENT, budge };
         let result = slot.claim(&mut store, n);
         self.pages = store.pages;
+        self.slides = slides_noted(self.slides, noted, store.bytes);
         result
     }
 
     /// Releases the block of the C heap at an address. Refused (`NotABlock`) where none begins there. (OS_Heap 3.)
     pub fn release(&mut self, bytes: &mut [u8], address: usize) -> Result<(), Refusal>
         requires { IsSlotBytes bytes.old self.old }
-        ensures { LeavesSlot bytes.old bytes.new self.old self.new
+        ensures left { LeavesSlot bytes.old bytes.new self.old self.new
             (no_answer (slot_release address (lent_slot_in bytes.old self.old))) result }
+        ensures slides { self.new.slides ≡ self.old.slides }
     {
-        let LentSlot { pages, budge } = *self;
+        let LentSlot { pages, budge, .. } = *self;
         let mut store = LentPagesMut { bytes, pages };
         let slot = Slot { area: LENT, budge };
         let result = slot.release(&mut store, address);
@@ -54,14 +60,17 @@ impl LentSlot {
     /// left, `NoBudge`, `NoRoom`. (OS_Heap 4.)
     pub fn resize(&mut self, bytes: &mut [u8], address: usize, delta: i32) -> Result<usize, Refusal>
         requires { IsSlotBytes bytes.old self.old }
-        ensures { LeavesSlot bytes.old bytes.new self.old self.new
+        ensures left { LeavesSlot bytes.old bytes.new self.old self.new
             (slot_resize (free_in bytes.old self.old) address delta (lent_slot_in bytes.old self.old)) result }
+        ensures slides { CountsSlides bytes.old bytes.new self.old self.new }
     {
-        let LentSlot { pages, budge } = *self;
+        let LentSlot { pages, budge, .. } = *self;
+        let noted = self.note_lowest(bytes);
         let mut store = LentPagesMut { bytes, pages };
         let slot = Slot { area: LENT, budge };
         let result = slot.resize(&mut store, address, delta);
         self.pages = store.pages;
+        self.slides = slides_noted(self.slides, noted, store.bytes);
         result
     }
 
@@ -71,7 +80,7 @@ impl LentSlot {
         requires { IsSlotBytes bytes.now self }
         ensures { result ≡ slot_take_pages n (lent_slot_in bytes.now self) }
     {
-        let LentSlot { pages, budge } = self;
+        let LentSlot { pages, budge, .. } = self;
         let store = LentPages { bytes, pages };
         let slot = Slot { area: LENT, budge };
         slot.take_pages(&store, n)
@@ -84,7 +93,7 @@ impl LentSlot {
         ensures { result ≡ ok_or (block_size (address - heap_start) (lent_slot_in bytes.now self).heap)
             Refusal.NotABlock }
     {
-        let LentSlot { pages, budge } = self;
+        let LentSlot { pages, budge, .. } = self;
         let store = LentPages { bytes, pages };
         let slot = Slot { area: LENT, budge };
         slot.block_size(&store, address)
@@ -95,7 +104,7 @@ impl LentSlot {
         requires { IsSlotBytes bytes.now self }
         ensures { result ≡ option_map piece (segment_at place (lent_slot_in bytes.now self).heap) }
     {
-        let LentSlot { pages, budge } = self;
+        let LentSlot { pages, budge, .. } = self;
         let store = LentPages { bytes, pages };
         let slot = Slot { area: LENT, budge };
         slot.segment(&store, place)
@@ -107,7 +116,7 @@ impl LentSlot {
         requires { IsSlotBytes bytes.now self }
         ensures { result.items ≡ segments_from place (lent_slot_in bytes.now self).heap }
     {
-        let LentSlot { pages, budge } = self;
+        let LentSlot { pages, budge, .. } = self;
         let store = LentPages { bytes, pages };
         let slot = Slot { area: LENT, budge };
         slot.segments_from(&store, place)
@@ -121,7 +130,7 @@ impl LentSlot {
         ensures largest { result.1 ≡ largest (lent_slot_in bytes.now self).heap }
         ensures free { result.2 ≡ free_bytes (lent_slot_in bytes.now self).heap }
     {
-        let LentSlot { pages, budge } = self;
+        let LentSlot { pages, budge, .. } = self;
         let store = LentPages { bytes, pages };
         let slot = Slot { area: LENT, budge };
         slot.describe(&store)

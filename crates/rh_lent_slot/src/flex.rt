@@ -5,10 +5,12 @@ ghost use Rattle.rh_defs.specs.Places.{free_anchor};
 ghost use Rattle.rh_defs.specs.Slot.{slot_address, slot_alloc, slot_extend, slot_free, slot_mid};
 ghost use Rattle.rh_defs.specs.Slot.{slot_put, slot_read, slot_size};
 ghost use Rattle.rh_defs.specs.declared.sizes.TheConstants.{ANCHORS};
+ghost use Rattle.rh_lent_slot.specs.SlotSlides.{CountsSlides};
 ghost use Rattle.rh_lent_slot.specs.Slots.{IsSlotBytes, LeavesSlot, free_in, lent_slot_in};
 
 use crate::pages::LentPages;
 use crate::pages_mut::LentPagesMut;
+use crate::slides::slides_noted;
 use crate::slot::LentSlot;
 use rh_defs::{Anchor, Refusal};
 use rh_lent_heap::LENT;
@@ -21,7 +23,7 @@ impl LentSlot {
         requires anchor { anchor < ANCHORS }
         ensures { result ≡ slot_size anchor (lent_slot_in bytes.now self) }
     {
-        let LentSlot { pages, budge } = self;
+        let LentSlot { pages, budge, .. } = self;
         let store = LentPages { bytes, pages };
         let slot = Slot { area: LENT, budge };
         slot.size(&store, anchor)
@@ -34,7 +36,7 @@ impl LentSlot {
         requires anchor { anchor < ANCHORS }
         ensures { result ≡ slot_address anchor (lent_slot_in bytes.now self) }
     {
-        let LentSlot { pages, budge } = self;
+        let LentSlot { pages, budge, .. } = self;
         let store = LentPages { bytes, pages };
         let slot = Slot { area: LENT, budge };
         slot.address(&store, anchor)
@@ -45,7 +47,7 @@ impl LentSlot {
         requires { IsSlotBytes bytes.now self }
         ensures { result ≡ free_anchor (lent_slot_in bytes.now self) }
     {
-        let LentSlot { pages, budge } = self;
+        let LentSlot { pages, budge, .. } = self;
         let store = LentPages { bytes, pages };
         let slot = Slot { area: LENT, budge };
         rh_slot::free_anchor(&store, slot)
@@ -56,10 +58,11 @@ impl LentSlot {
     pub fn alloc(&mut self, bytes: &mut [u8], anchor: Anchor, n: u32) -> Result<usize, Refusal>
         requires slot { IsSlotBytes bytes.old self.old }
         requires anchor { anchor < ANCHORS }
-        ensures { LeavesSlot bytes.old bytes.new self.old self.new
+        ensures left { LeavesSlot bytes.old bytes.new self.old self.new
             (slot_alloc (free_in bytes.old self.old) anchor n (lent_slot_in bytes.old self.old)) result }
+        ensures slides { self.new.slides ≡ self.old.slides }
     {
-        let LentSlot { pages, budge } = *self;
+        let LentSlot { pages, budge, .. } = *self;
         let mut store = LentPagesMut { bytes, pages };
         let slot = Slot { area: LENT, budge };
         let result = slot.alloc(&mut store, anchor, n);
@@ -71,14 +74,17 @@ impl LentSlot {
     pub fn free(&mut self, bytes: &mut [u8], anchor: Anchor) -> Result<(), Refusal>
         requires slot { IsSlotBytes bytes.old self.old }
         requires anchor { anchor < ANCHORS }
-        ensures { LeavesSlot bytes.old bytes.new self.old self.new
+        ensures left { LeavesSlot bytes.old bytes.new self.old self.new
             (no_answer (slot_free anchor (lent_slot_in bytes.old self.old))) result }
+        ensures slides { CountsSlides bytes.old bytes.new self.old self.new }
     {
-        let LentSlot { pages, budge } = *self;
+        let LentSlot { pages, budge, .. } = *self;
+        let noted = self.note_above(bytes, anchor);
         let mut store = LentPagesMut { bytes, pages };
         let slot = Slot { area: LENT, budge };
         let result = slot.free(&mut store, anchor);
         self.pages = store.pages;
+        self.slides = slides_noted(self.slides, noted, store.bytes);
         result
     }
 
@@ -87,14 +93,17 @@ impl LentSlot {
     pub fn extend(&mut self, bytes: &mut [u8], anchor: Anchor, n: u32) -> Result<(), Refusal>
         requires slot { IsSlotBytes bytes.old self.old }
         requires anchor { anchor < ANCHORS }
-        ensures { LeavesSlot bytes.old bytes.new self.old self.new
+        ensures left { LeavesSlot bytes.old bytes.new self.old self.new
             (no_answer (slot_extend (free_in bytes.old self.old) anchor n (lent_slot_in bytes.old self.old))) result }
+        ensures slides { CountsSlides bytes.old bytes.new self.old self.new }
     {
-        let LentSlot { pages, budge } = *self;
+        let LentSlot { pages, budge, .. } = *self;
+        let noted = self.note_above(bytes, anchor);
         let mut store = LentPagesMut { bytes, pages };
         let slot = Slot { area: LENT, budge };
         let result = slot.extend(&mut store, anchor, n);
         self.pages = store.pages;
+        self.slides = slides_noted(self.slides, noted, store.bytes);
         result
     }
 
@@ -110,15 +119,18 @@ impl LentSlot {
     ) -> Result<(), Refusal>
         requires slot { IsSlotBytes bytes.old self.old }
         requires anchor { anchor < ANCHORS }
-        ensures { LeavesSlot bytes.old bytes.new self.old self.new
+        ensures left { LeavesSlot bytes.old bytes.new self.old self.new
             (no_answer (slot_mid (free_in bytes.old self.old) anchor offset by
             (lent_slot_in bytes.old self.old))) result }
+        ensures slides { CountsSlides bytes.old bytes.new self.old self.new }
     {
-        let LentSlot { pages, budge } = *self;
+        let LentSlot { pages, budge, .. } = *self;
+        let noted = self.note_above(bytes, anchor);
         let mut store = LentPagesMut { bytes, pages };
         let slot = Slot { area: LENT, budge };
         let result = slot.mid(&mut store, anchor, offset, by);
         self.pages = store.pages;
+        self.slides = slides_noted(self.slides, noted, store.bytes);
         result
     }
 
@@ -133,10 +145,11 @@ impl LentSlot {
     ) -> Result<(), Refusal>
         requires slot { IsSlotBytes bytes.old self.old }
         requires anchor { anchor < ANCHORS }
-        ensures { LeavesSlot bytes.old bytes.new self.old self.new
+        ensures left { LeavesSlot bytes.old bytes.new self.old self.new
             (no_answer (slot_put anchor offset from.now (lent_slot_in bytes.old self.old))) result }
+        ensures slides { self.new.slides ≡ self.old.slides }
     {
-        let LentSlot { pages, budge } = *self;
+        let LentSlot { pages, budge, .. } = *self;
         let mut store = LentPagesMut { bytes, pages };
         let slot = Slot { area: LENT, budge };
         let result = slot.put(&mut store, anchor, offset, from);
@@ -159,7 +172,7 @@ impl LentSlot {
         ensures buffer { to.new ≡ result_or to.old (slot_read anchor offset (length to.old)
             (lent_slot_in bytes.now self)) }
     {
-        let LentSlot { pages, budge } = self;
+        let LentSlot { pages, budge, .. } = self;
         let store = LentPages { bytes, pages };
         let slot = Slot { area: LENT, budge };
         slot.read(&store, anchor, offset, to)

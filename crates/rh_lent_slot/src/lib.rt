@@ -9,6 +9,7 @@ mod image;
 mod pages;
 mod pages_mut;
 mod row;
+mod slides;
 mod slot;
 
 pub use pages::LentPages;

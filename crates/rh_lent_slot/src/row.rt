@@ -18,7 +18,7 @@ impl LentSlot {
         requires { IsSlotBytes bytes.now self }
         ensures { result ≡ length (lent_slot_in bytes.now self).blocks }
     {
-        let LentSlot { pages, budge } = self;
+        let LentSlot { pages, budge, .. } = self;
         let store = LentPages { bytes, pages };
         let slot = Slot { area: LENT, budge };
         slot.count(&store)
@@ -30,7 +30,7 @@ impl LentSlot {
         ensures passed { result.passed ≡ 0 }
         ensures walk { WalksIn (lent_slot_in bytes.now self) result }
     {
-        let LentSlot { pages, budge } = self;
+        let LentSlot { pages, budge, .. } = self;
         let store = LentPages { bytes, pages };
         let slot = Slot { area: LENT, budge };
         slot.blocks(&store)
@@ -47,7 +47,7 @@ impl LentSlot {
         ensures stays { IfNone result (walk.new ≡ walk.old) }
         ensures all { IfNone result (walk.new.passed ≡ length (lent_slot_in bytes.now self).blocks) }
     {
-        let LentSlot { pages, budge } = self;
+        let LentSlot { pages, budge, .. } = self;
         let store = LentPages { bytes, pages };
         let slot = Slot { area: LENT, budge };
         slot.next_block(&store, walk)
@@ -59,7 +59,7 @@ impl LentSlot {
         requires { IsSlotBytes bytes.now self }
         ensures { items.new.items ≡ block_items (lent_slot_in bytes.now self) }
     {
-        let LentSlot { pages, budge } = self;
+        let LentSlot { pages, budge, .. } = self;
         let store = LentPages { bytes, pages };
         let slot = Slot { area: LENT, budge };
         slot.list(&store, items);
@@ -70,7 +70,7 @@ impl LentSlot {
         requires { IsSlotBytes bytes.now self }
         ensures { result ≡ slice_get (block_items (lent_slot_in bytes.now self)) i }
     {
-        let LentSlot { pages, budge } = self;
+        let LentSlot { pages, budge, .. } = self;
         let store = LentPages { bytes, pages };
         let slot = Slot { area: LENT, budge };
         slot.block(&store, i)

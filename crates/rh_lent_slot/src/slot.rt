@@ -24,8 +24,8 @@ const C_HEAP: Span = Span {
     at: C_HEAP_PLACE,
 };
 
-/// What of a slot in lent bytes doesn't stand in them: how many pages it has, from the first byte on, and whether
-/// budging is on.
+/// What of a slot in lent bytes doesn't stand in them: how many pages it has, from the first byte on, whether budging
+/// is on, and how many calls have moved a block. Places of blocks that were asked for hold as long as this count does.
 ///
 /// The whole pages behind the slot's are free. A call may take some of them for the slot, and says nothing of what
 /// they hold then. Between calls they are the caller's. A slot ends where its bytes are used for something else.
@@ -34,6 +34,7 @@ const C_HEAP: Span = Span {
 pub struct LentSlot {
     pub pages: usize,
     pub budge: bool,
+    pub slides: u32,
 }
 
 impl LentSlot {
@@ -45,6 +46,7 @@ impl LentSlot {
         ensures slot { IfOk result (λ slot. lent_slot_in bytes.new slot ≡ new_slot) }
         ensures spells { IfOk result (λ slot. IsSlotBytes bytes.new slot) }
         ensures budge { IfOk result (λ slot. slot.budge ≡ true) }
+        ensures slides { IfOk result (λ slot. slot.slides ≡ 0) }
         ensures err { OnErr result (bytes.new ≡ bytes.old) }
     {
         if bytes.len() < PAGE {
@@ -54,12 +56,16 @@ impl LentSlot {
         let mut store = LentPagesMut { bytes, pages: 1 };
         rh_heap::init(&mut store, C_HEAP, C_HEAP_LENGTH);
         let pages = store.pages;
-        Ok(LentSlot { pages, budge: true })
+        Ok(LentSlot {
+            pages,
+            budge: true,
+            slides: 0,
+        })
     }
 
     /// Turns budging on or off, and answers whether it was on. (flex_set_budge.)
     pub fn set_budge(&mut self, on: bool) -> bool
-        ensures slot { self.new ≡ record { pages = self.old.pages; budge = on } }
+        ensures slot { self.new ≡ record { pages = self.old.pages; budge = on; slides = self.old.slides } }
         ensures answer { result ≡ self.old.budge }
         ensures still { (b : List ℕ) → IsSlotBytes b self.old → IsSlotBytes b self.new }
         ensures spelled { (b : List ℕ) → (lent_slot_in b self.new, result) ≡ slot_set_budge on
@@ -76,7 +82,7 @@ impl LentSlot {
         requires { IsSlotBytes bytes.now self }
         ensures { result ≡ holds address n (lent_slot_in bytes.now self) }
     {
-        let LentSlot { pages, budge } = self;
+        let LentSlot { pages, budge, .. } = self;
         let store = LentPages { bytes, pages };
         let slot = Slot { area: LENT, budge };
         slot.inside(&store, address, n)
@@ -85,10 +91,11 @@ impl LentSlot {
     /// Writes bytes at an address. Refused (`BadRange`) where no block of the slot holds as many bytes there.
     pub fn write(&mut self, bytes: &mut [u8], address: usize, from: &[u8]) -> Result<(), Refusal>
         requires { IsSlotBytes bytes.old self.old }
-        ensures { LeavesSlot bytes.old bytes.new self.old self.new
+        ensures left { LeavesSlot bytes.old bytes.new self.old self.new
             (no_answer (slot_write address from.now (lent_slot_in bytes.old self.old))) result }
+        ensures slides { self.new.slides ≡ self.old.slides }
     {
-        let LentSlot { pages, budge } = *self;
+        let LentSlot { pages, budge, .. } = *self;
         let mut store = LentPagesMut { bytes, pages };
         let slot = Slot { area: LENT, budge };
         if !slot.inside(&store, address, from.len()) {

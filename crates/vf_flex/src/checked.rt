@@ -3,6 +3,7 @@ ghost use Rattle.std.specs.Prelude.{◌≡◌, ◌≢◌, length};
 ghost use Rattle.rh_defs.specs.Chain.{answer_of, outcome_of, result_or};
 ghost use Rattle.rh_defs.specs.Heap.{free_bytes, largest};
 ghost use Rattle.rh_defs.specs.Slot.{slot_address, slot_read, slot_size};
+ghost use Rattle.rh_lent_slot.specs.SlotSlides.{CountsSlides};
 ghost use Rattle.rh_lent_slot.specs.Slots.{IsSlotBytes, lent_slot_in};
 ghost use Rattle.vf_flex.specs.LentSlotCalls.{LeavesLentSlot, RefusesInput, size_at};
 ghost use Rattle.vf_flex.specs.LentSlotCalls.{alloc_granted, extend_granted, free_granted, mid_granted, put_granted};
@@ -42,6 +43,7 @@ pub extern "C" fn vf_flex_checked_alloc(
         place.new ≡ place_or (answer_of (alloc_granted memory.old slot.old anchor n)) place.old }
     ensures left { checked_anchor_status memory.old slot.old anchor ≡ 0 →
         LeavesLentSlot memory.old memory.new slot.old slot.new (alloc_granted memory.old slot.old anchor n) }
+    ensures slides { slot.new.slides ≡ slot.old.slides }
 {
     match checked_anchor_status(memory, *slot, anchor) {
         OK => flex::vf_flex_alloc(memory, slot, anchor, n, place),
@@ -80,6 +82,7 @@ pub extern "C" fn vf_flex_checked_free(memory: &mut [u8], slot: &mut LentSlot, a
         result ≡ status_of (free_granted memory.old slot.old anchor) }
     ensures left { checked_anchor_status memory.old slot.old anchor ≡ 0 →
         LeavesLentSlot memory.old memory.new slot.old slot.new (free_granted memory.old slot.old anchor) }
+    ensures slides { CountsSlides memory.old memory.new slot.old slot.new }
 {
     match checked_anchor_status(memory, *slot, anchor) {
         OK => flex::vf_flex_free(memory, slot, anchor),
@@ -101,6 +104,7 @@ pub extern "C" fn vf_flex_checked_extend(
         result ≡ status_of (extend_granted memory.old slot.old anchor n) }
     ensures left { checked_anchor_status memory.old slot.old anchor ≡ 0 →
         LeavesLentSlot memory.old memory.new slot.old slot.new (extend_granted memory.old slot.old anchor n) }
+    ensures slides { CountsSlides memory.old memory.new slot.old slot.new }
 {
     match checked_anchor_status(memory, *slot, anchor) {
         OK => flex::vf_flex_extend(memory, slot, anchor, n),
@@ -123,6 +127,7 @@ pub extern "C" fn vf_flex_checked_midextend(
         result ≡ status_of (mid_granted memory.old slot.old anchor offset by) }
     ensures left { checked_anchor_status memory.old slot.old anchor ≡ 0 →
         LeavesLentSlot memory.old memory.new slot.old slot.new (mid_granted memory.old slot.old anchor offset by) }
+    ensures slides { CountsSlides memory.old memory.new slot.old slot.new }
 {
     match checked_anchor_status(memory, *slot, anchor) {
         OK => flex::vf_flex_midextend(memory, slot, anchor, offset, by),
@@ -168,6 +173,7 @@ pub extern "C" fn vf_flex_checked_put(
     ensures left { checked_anchor_status memory.old slot.old anchor ≡ 0 →
         LeavesLentSlot memory.old memory.new slot.old slot.new
         (put_granted memory.old slot.old anchor offset from.now) }
+    ensures slides { slot.new.slides ≡ slot.old.slides }
 {
     match checked_anchor_status(memory, *slot, anchor) {
         OK => flex::vf_flex_put(memory, slot, anchor, offset, from),
@@ -216,6 +222,7 @@ pub extern "C" fn vf_flex_checked_claim(
         place.new ≡ place_or (answer_of (claim_granted memory.old slot.old n)) place.old }
     ensures left { image_status memory.old slot.old ≡ 0 →
         LeavesLentSlot memory.old memory.new slot.old slot.new (claim_granted memory.old slot.old n) }
+    ensures slides { CountsSlides memory.old memory.new slot.old slot.new }
 {
     match image_status(memory, *slot) {
         OK => c_heap::vf_flex_claim(memory, slot, n, place),
@@ -236,6 +243,7 @@ pub extern "C" fn vf_flex_checked_release(
         result ≡ status_of (release_granted memory.old slot.old place) }
     ensures left { checked_place_status memory.old slot.old place ≡ 0 →
         LeavesLentSlot memory.old memory.new slot.old slot.new (release_granted memory.old slot.old place) }
+    ensures slides { slot.new.slides ≡ slot.old.slides }
 {
     match checked_place_status(memory, *slot, place) {
         OK => c_heap::vf_flex_release(memory, slot, place),
@@ -261,6 +269,7 @@ pub extern "C" fn vf_flex_checked_resize(
         moved_to.new ≡ place_or (answer_of (resize_granted memory.old slot.old place delta)) moved_to.old }
     ensures left { checked_place_status memory.old slot.old place ≡ 0 →
         LeavesLentSlot memory.old memory.new slot.old slot.new (resize_granted memory.old slot.old place delta) }
+    ensures slides { CountsSlides memory.old memory.new slot.old slot.new }
 {
     match checked_place_status(memory, *slot, place) {
         OK => c_heap::vf_flex_resize(memory, slot, place, delta, moved_to),

@@ -14,6 +14,7 @@ pub extern "C" fn vf_flex_start(memory: &mut [u8], slot: &mut LentSlot) -> u32
     ensures status { result ≡ length_status (length memory.old) }
     ensures bytes { result ≡ 0 → IsSlotBytes memory.new slot.new }
     ensures slot { result ≡ 0 → lent_slot_in memory.new slot.new ≡ new_slot }
+    ensures slides { result ≡ 0 → slot.new.slides ≡ 0 }
     ensures refused { result ≢ 0 → (memory.new ≡ memory.old) × (slot.new ≡ slot.old) }
 {
     let status = length_status(memory.len());
@@ -33,7 +34,7 @@ pub extern "C" fn vf_flex_start(memory: &mut [u8], slot: &mut LentSlot) -> u32
 #[unsafe(no_mangle)]
 pub extern "C" fn vf_flex_set_budge(slot: &mut LentSlot, on: bool, was: &mut bool) -> u32
     ensures status { result ≡ 0 }
-    ensures slot { slot.new ≡ record { pages = slot.old.pages; budge = on } }
+    ensures slot { slot.new ≡ record { pages = slot.old.pages; budge = on; slides = slot.old.slides } }
     ensures was { was.new ≡ slot.old.budge }
     ensures still { (b : List ℕ) → IsSlotBytes b slot.old → IsSlotBytes b slot.new }
     ensures spelled { (b : List ℕ) → (lent_slot_in b slot.new, was.new) ≡ slot_set_budge on (lent_slot_in b slot.old) }

@@ -1,20 +1,47 @@
-use Rattle.rh_lent_slot.proofs.Common.{rules, area_set, bytes, lent_pages_memory, pages_memory_over, LeavesSlot, free_in, lent_slot_in}
+use Rattle.rh_lent_slot.proofs.Common.{rules, ◌∙◌, area_set, bytes, lent_pages_memory, pages_memory_over, LeavesSlot, free_in, lent_slot_in}
 use Rattle.rh_defs.specs.Slot.{slot_claim}
 use Rattle.rh_lent_slot.proofs.SlotBytes.{is_slot, leaves_slot}
+use Rattle.rh_lent_slot.proofs.SlideCalls.{noted_in, counted_lowest, heaps-claim}
 use Rattle.rh_lent_slot.proofs.slot.LentSlot.claim.Goals as goal
 
 pub claim-result-requires : goal.claim-result-requires
 unfolding lent_pages_memory
 claim-result-requires c = record { slot = is_slot c.args.bytes.now c.args.self.now _ c.requires }
 
-pub returns : goal.returns
+pub returns-clause-left : goal.returns-clause-left
 unfolding lent_pages_memory pages_memory_over bytes area_set
-returns c =
+returns-clause-left c =
     let b = c.args.bytes.now in
     let s = c.args.self.now in
     let store = c.claim-result.new.store in
     let granted = slot_claim (free_in b s) c.args.n (lent_slot_in b s) in
     let name = c.claim-result.ensures.only.loan in
-    let left : LeavesSlot b store.bytes.now s (record { pages = store.pages; budge = s.budge }) granted c.claim-result.result =
-    leaves_slot b s _ store granted c.claim-result.result c.requires c.claim-result.ensures in
+    let left : LeavesSlot b store.bytes.now s (record { pages = store.pages; budge = s.budge; slides = c.slides_noted.result }) granted c.claim-result.result =
+    leaves_slot b s _ store _ granted c.claim-result.result c.requires c.claim-result.ensures in
     search rules
+
+pub slides_noted-requires : goal.slides_noted-requires
+unfolding lent_pages_memory pages_memory_over bytes area_set
+slides_noted-requires c =
+    let b = c.args.bytes.now in
+    let s = c.args.self.now in
+    let store = c.claim-result.new.store in
+    let granted = slot_claim (free_in b s) c.args.n (lent_slot_in b s) in
+    let name = c.claim-result.ensures.only.loan in
+    let left : LeavesSlot b store.bytes.now s (record { pages = store.pages; budge = s.budge; slides = s.slides }) granted c.claim-result.result =
+    leaves_slot b s _ store _ granted c.claim-result.result c.requires c.claim-result.ensures in
+    noted_in store.bytes.now _ _ left.bytes c.note_lowest-noted.ensures.within
+
+pub returns-clause-slides : goal.returns-clause-slides
+unfolding lent_pages_memory pages_memory_over bytes area_set
+returns-clause-slides c =
+    let b = c.args.bytes.now in
+    let s = c.args.self.now in
+    let store = c.claim-result.new.store in
+    let granted = slot_claim (free_in b s) c.args.n (lent_slot_in b s) in
+    let name = c.claim-result.ensures.only.loan in
+    let left : LeavesSlot b store.bytes.now s (record { pages = store.pages; budge = s.budge; slides = c.slides_noted.result }) granted c.claim-result.result =
+    leaves_slot b s _ store _ granted c.claim-result.result c.requires c.claim-result.ensures in
+    c.slides_noted.ensures
+    ∙ counted_lowest b store.bytes.now s _ c.note_lowest-noted.result
+    c.requires granted c.claim-result.result (heaps-claim _ _ _) left c.note_lowest-noted.ensures.first

@@ -1,20 +1,47 @@
-use Rattle.rh_lent_slot.proofs.Common.{rules, no_answer, area_set, bytes, lent_pages_memory, pages_memory_over, LeavesSlot, lent_slot_in}
+use Rattle.rh_lent_slot.proofs.Common.{rules, ◌∙◌, no_answer, area_set, bytes, lent_pages_memory, pages_memory_over, LeavesSlot, lent_slot_in}
 use Rattle.rh_defs.specs.Slot.{slot_free}
 use Rattle.rh_lent_slot.proofs.SlotBytes.{is_slot, leaves_slot}
+use Rattle.rh_lent_slot.proofs.SlideCalls.{noted_in, counted_above, alters-free}
 use Rattle.rh_lent_slot.proofs.slot.LentSlot.free.Goals as goal
 
 pub free-result-requires-clause-slot : goal.free-result-requires-clause-slot
 unfolding lent_pages_memory
 free-result-requires-clause-slot c = is_slot c.args.bytes.now c.args.self.now _ c.requires.slot
 
-pub returns : goal.returns
+pub returns-clause-left : goal.returns-clause-left
 unfolding lent_pages_memory pages_memory_over bytes area_set
-returns c =
+returns-clause-left c =
     let b = c.args.bytes.now in
     let s = c.args.self.now in
     let store = c.free-result.new.store in
     let granted = no_answer (slot_free c.args.anchor (lent_slot_in b s)) in
     let name = c.free-result.ensures.only.loan in
-    let left : LeavesSlot b store.bytes.now s (record { pages = store.pages; budge = s.budge }) granted c.free-result.result =
-    leaves_slot b s _ store granted c.free-result.result c.requires.slot c.free-result.ensures in
+    let left : LeavesSlot b store.bytes.now s (record { pages = store.pages; budge = s.budge; slides = c.slides_noted.result }) granted c.free-result.result =
+    leaves_slot b s _ store _ granted c.free-result.result c.requires.slot c.free-result.ensures in
     search rules
+
+pub slides_noted-requires : goal.slides_noted-requires
+unfolding lent_pages_memory pages_memory_over bytes area_set
+slides_noted-requires c =
+    let b = c.args.bytes.now in
+    let s = c.args.self.now in
+    let store = c.free-result.new.store in
+    let granted = no_answer (slot_free c.args.anchor (lent_slot_in b s)) in
+    let name = c.free-result.ensures.only.loan in
+    let left : LeavesSlot b store.bytes.now s (record { pages = store.pages; budge = s.budge; slides = s.slides }) granted c.free-result.result =
+    leaves_slot b s _ store _ granted c.free-result.result c.requires.slot c.free-result.ensures in
+    noted_in store.bytes.now _ _ left.bytes c.note_above-noted.ensures.within
+
+pub returns-clause-slides : goal.returns-clause-slides
+unfolding lent_pages_memory pages_memory_over bytes area_set
+returns-clause-slides c =
+    let b = c.args.bytes.now in
+    let s = c.args.self.now in
+    let store = c.free-result.new.store in
+    let granted = no_answer (slot_free c.args.anchor (lent_slot_in b s)) in
+    let name = c.free-result.ensures.only.loan in
+    let left : LeavesSlot b store.bytes.now s (record { pages = store.pages; budge = s.budge; slides = c.slides_noted.result }) granted c.free-result.result =
+    leaves_slot b s _ store _ granted c.free-result.result c.requires.slot c.free-result.ensures in
+    c.slides_noted.ensures
+    ∙ counted_above b store.bytes.now s _ c.note_above-noted.result
+    c.requires.slot c.args.anchor granted c.free-result.result (alters-free _ _) left c.note_above-noted.ensures.first

@@ -1,21 +1,50 @@
-use Rattle.rh_lent_slot.proofs.Common.{rules, ℤ, w32, no_answer, area_set, bytes, lent_pages_memory, pages_memory_over, LeavesSlot, free_in, lent_slot_in}
+use Rattle.rh_lent_slot.proofs.Common.{rules, ◌∙◌, ℤ, w32, no_answer, area_set, bytes, lent_pages_memory, pages_memory_over, LeavesSlot, free_in, lent_slot_in}
 use Rattle.std.proofs.lemmas.Int.{to_z-of_z}
 use Rattle.rh_defs.specs.Slot.{slot_mid}
 use Rattle.rh_lent_slot.proofs.SlotBytes.{is_slot, leaves_signed}
+use Rattle.rh_lent_slot.proofs.SlideCalls.{noted_in, counted_above, alters-mid}
 use Rattle.rh_lent_slot.proofs.slot.LentSlot.mid.Goals as goal
 
 pub mid-result-requires-clause-slot : goal.mid-result-requires-clause-slot
 unfolding lent_pages_memory
 mid-result-requires-clause-slot c = is_slot c.args.bytes.now c.args.self.now _ c.requires.slot
 
-pub returns : goal.returns
+pub returns-clause-left : goal.returns-clause-left
 unfolding lent_pages_memory pages_memory_over bytes area_set
-returns c =
+returns-clause-left c =
     let b = c.args.bytes.now in
     let s = c.args.self.now in
     let store = c.mid-result.new.store in
     let granted = λ (d : ℤ). no_answer (slot_mid (free_in b s) c.args.anchor c.args.offset d (lent_slot_in b s)) in
     let name = c.mid-result.ensures.only.loan in
-    let left : LeavesSlot b store.bytes.now s (record { pages = store.pages; budge = s.budge }) (granted c.args.by) c.mid-result.result =
-    leaves_signed b s _ store granted c.mid-result.result _ _ (to_z-of_z w32 c.args.by c.ranges.by) c.requires.slot c.mid-result.ensures in
+    let left : LeavesSlot b store.bytes.now s (record { pages = store.pages; budge = s.budge; slides = c.slides_noted.result })
+    (granted c.args.by) c.mid-result.result =
+    leaves_signed b s _ store _ granted c.mid-result.result _ _ (to_z-of_z w32 c.args.by c.ranges.by) c.requires.slot c.mid-result.ensures in
     search rules
+
+pub slides_noted-requires : goal.slides_noted-requires
+unfolding lent_pages_memory pages_memory_over bytes area_set
+slides_noted-requires c =
+    let b = c.args.bytes.now in
+    let s = c.args.self.now in
+    let store = c.mid-result.new.store in
+    let granted = λ (d : ℤ). no_answer (slot_mid (free_in b s) c.args.anchor c.args.offset d (lent_slot_in b s)) in
+    let name = c.mid-result.ensures.only.loan in
+    let left : LeavesSlot b store.bytes.now s (record { pages = store.pages; budge = s.budge; slides = s.slides }) (granted c.args.by) c.mid-result.result =
+    leaves_signed b s _ store _ granted c.mid-result.result _ _ (to_z-of_z w32 c.args.by c.ranges.by) c.requires.slot c.mid-result.ensures in
+    noted_in store.bytes.now _ _ left.bytes c.note_above-noted.ensures.within
+
+pub returns-clause-slides : goal.returns-clause-slides
+unfolding lent_pages_memory pages_memory_over bytes area_set
+returns-clause-slides c =
+    let b = c.args.bytes.now in
+    let s = c.args.self.now in
+    let store = c.mid-result.new.store in
+    let granted = λ (d : ℤ). no_answer (slot_mid (free_in b s) c.args.anchor c.args.offset d (lent_slot_in b s)) in
+    let name = c.mid-result.ensures.only.loan in
+    let left : LeavesSlot b store.bytes.now s (record { pages = store.pages; budge = s.budge; slides = c.slides_noted.result })
+    (granted c.args.by) c.mid-result.result =
+    leaves_signed b s _ store _ granted c.mid-result.result _ _ (to_z-of_z w32 c.args.by c.ranges.by) c.requires.slot c.mid-result.ensures in
+    c.slides_noted.ensures
+    ∙ counted_above b store.bytes.now s _ c.note_above-noted.result
+    c.requires.slot c.args.anchor (granted c.args.by) c.mid-result.result (alters-mid _ _ _ _ _) left c.note_above-noted.ensures.first

@@ -7,14 +7,14 @@ pub release-result-requires : goal.release-result-requires
 unfolding lent_pages_memory
 release-result-requires c = record { slot = is_slot c.args.bytes.now c.args.self.now _ c.requires }
 
-pub returns : goal.returns
+pub returns-clause-left : goal.returns-clause-left
 unfolding lent_pages_memory pages_memory_over bytes area_set
-returns c =
+returns-clause-left c =
     let b = c.args.bytes.now in
     let s = c.args.self.now in
     let store = c.release-result.new.store in
     let granted = no_answer (slot_release c.args.address (lent_slot_in b s)) in
     let name = c.release-result.ensures.only.loan in
-    let left : LeavesSlot b store.bytes.now s (record { pages = store.pages; budge = s.budge }) granted c.release-result.result =
-    leaves_slot b s _ store granted c.release-result.result c.requires c.release-result.ensures in
+    let left : LeavesSlot b store.bytes.now s (record { pages = store.pages; budge = s.budge; slides = s.slides }) granted c.release-result.result =
+    leaves_slot b s _ store _ granted c.release-result.result c.requires c.release-result.ensures in
     search rules

@@ -32,7 +32,7 @@ returns-clause-slot c =
     let page = page_of_zeros c.args.bytes.now c.zero_in.new.b (omega arith) c.zero_in.ensures in
     let name = c.init.ensures.only.loan in
     let spelt = begun c.zero_in.new.b _ store page c.init.ensures.only c.init.ensures.spells in
-    let made : lent_slot_in store.bytes.now (record { pages = store.pages; budge = true }) ≡ new_slot = begun_slot store spelt in
+    let made : lent_slot_in store.bytes.now (record { pages = store.pages; budge = true; slides = 0 }) ≡ new_slot = begun_slot store spelt in
     search rules
 
 pub returns-clause-spells : goal.returns-clause-spells
@@ -43,5 +43,5 @@ returns-clause-spells c =
     let page = page_of_zeros c.args.bytes.now c.zero_in.new.b (omega arith) c.zero_in.ensures in
     let name = c.init.ensures.only.loan in
     let spelt = begun c.zero_in.new.b _ store page c.init.ensures.only c.init.ensures.spells in
-    let made : IsSlotBytes store.bytes.now (record { pages = store.pages; budge = true }) = begun_bytes store spelt in
+    let made : IsSlotBytes store.bytes.now (record { pages = store.pages; budge = true; slides = 0 }) = begun_bytes store spelt in
     search rules

@@ -11,9 +11,9 @@ pub inside-requires : goal.inside-requires
 unfolding lent_pages_memory
 inside-requires c = record { slot = is_slot c.args.bytes.now c.args.self.now _ c.requires }
 
-pub returns-then-not-inside : goal.returns-then-not-inside
+pub returns-then-not-inside-clause-left : goal.returns-then-not-inside-clause-left
 unfolding lent_pages_memory pages_memory_over bytes area_set
-returns-then-not-inside c =
+returns-then-not-inside-clause-left c =
     let b = c.args.bytes.now in
     let s = c.args.self.now in
     let granted = no_answer (slot_write c.args.address c.args.from.now (lent_slot_in b s)) in
@@ -44,9 +44,9 @@ copy_in-requires-clause-within c =
     let w = write_within c.args.address c.args.from.now (lent_slot_in b s) _ c.requires.spells held in
     omega (arith, w.high)
 
-pub returns : goal.returns
+pub returns-clause-left : goal.returns-clause-left
 unfolding lent_pages_memory pages_memory_over bytes area_set
-returns c =
+returns-clause-left c =
     let b = c.args.bytes.now in
     let s = c.args.self.now in
     let store = c.copy_in.new.self in
@@ -54,6 +54,6 @@ returns c =
     let held : holds c.args.address (length c.args.from.now) (lent_slot_in b s) ≡ true = sym c.inside.ensures ∙ c.if-not-inside.false in
     let is = write_leaves _ (lent_pages_memory store) _ c.args.address c.args.from.now (is_slot b s _ c.requires) held c.copy_in.ensures in
     let name = is.only.loan in
-    let left : LeavesSlot b store.bytes.now s (record { pages = store.pages; budge = s.budge }) granted (Ok tt) =
-    leaves_slot b s _ store granted (Ok tt) c.requires is in
+    let left : LeavesSlot b store.bytes.now s (record { pages = store.pages; budge = s.budge; slides = s.slides }) granted (Ok tt) =
+    leaves_slot b s _ store _ granted (Ok tt) c.requires is in
     search rules
