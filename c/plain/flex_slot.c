@@ -71,11 +71,12 @@ static size_t top_from(const uint8_t *memory, size_t end, size_t at)
     return at;
 }
 
-/* Moves the blocks that lie in `n` bytes, and writes their anchor words. */
-static void shift(uint8_t *memory, size_t from, size_t to, size_t n)
+/* Moves the blocks that lie in `n` bytes, writes their anchor words, and counts that. */
+static void shift(uint8_t *memory, struct vf_slot *slot, size_t from, size_t to, size_t n)
 {
     if (from == to)
         return;
+    slot->slides += n != 0;
     memmove(memory + to, memory + from, n);
     for (size_t at = to; at < to + n; at += weight(word(memory, at + WORD)))
         set_word(memory, word(memory, at) - START, START + at + HEADER);
@@ -87,7 +88,7 @@ uint32_t flex_slot_start(uint8_t *memory, size_t len, struct vf_slot *slot)
         return VF_BAD_LENGTH;
     memset(memory, 0, HEAP);
     os_heap_init(memory + HEAP, PAGE - HEAP);
-    *slot = (struct vf_slot){1, true};
+    *slot = (struct vf_slot){1, true, 0};
     return VF_OK;
 }
 
@@ -120,7 +121,7 @@ uint32_t flex_slot_free(uint8_t *memory, size_t len, struct vf_slot *slot, uint3
         return VF_NO_BLOCK;
     size_t from = header + weight(word(memory, header + WORD));
     size_t above = top_from(memory, PAGE * slot->pages, from) - from;
-    shift(memory, from, header, above);
+    shift(memory, slot, from, header, above);
     set_word(memory, WORD * anchor, 0);
     slot->pages = pages_for(header + above);
     return VF_OK;
@@ -138,7 +139,7 @@ uint32_t flex_slot_extend(uint8_t *memory, size_t len, struct vf_slot *slot, uin
     size_t above = top_from(memory, PAGE * slot->pages, from) - from, to = header + weight(n);
     if (n > LONGEST || pages_for(to + above) > len / PAGE)
         return VF_NO_ROOM;
-    shift(memory, from, to, above);
+    shift(memory, slot, from, to, above);
     set_word(memory, header + WORD, n);
     if (n > old)
         memset(memory + header + HEADER + old, 0, n - old);

@@ -60,7 +60,8 @@ static bool extends(void)
 /* Whether both slots have the same blocks at the same places. */
 static bool is_same(void)
 {
-    if (slot.pages != plain_slot.pages || slot.budge != plain_slot.budge || memcmp(memory, plain, WORD * ANCHORS))
+    if (slot.pages != plain_slot.pages || slot.budge != plain_slot.budge || slot.slides != plain_slot.slides ||
+        memcmp(memory, plain, WORD * ANCHORS))
         return false;
     for (uint32_t anchor = 0; anchor < ANCHORS; anchor++) {
         size_t place, size;

@@ -32,7 +32,8 @@ pub extern "C" fn vf_flex_claim(
         place.new ≡ place_or (answer_of (claim_granted memory.old slot.old n)) place.old }
     ensures left { slot_status (length memory.old) slot.old ≡ 0 →
         LeavesLentSlot memory.old memory.new slot.old slot.new (claim_granted memory.old slot.old n) }
-    ensures slides { CountsSlides memory.old memory.new slot.old slot.new }
+    ensures slides { slot_status (length memory.old) slot.old ≡ 0 →
+        CountsSlides memory.old memory.new slot.old slot.new }
 {
     match slot_status(memory.len(), *slot) {
         OK => give_place(slot.claim(memory, nearest(n)), place),
@@ -50,7 +51,7 @@ pub extern "C" fn vf_flex_release(memory: &mut [u8], slot: &mut LentSlot, place:
         result ≡ status_of (release_granted memory.old slot.old place) }
     ensures left { place_status (length memory.old) slot.old place ≡ 0 →
         LeavesLentSlot memory.old memory.new slot.old slot.new (release_granted memory.old slot.old place) }
-    ensures slides { slot.new.slides ≡ slot.old.slides }
+    ensures slides { place_status (length memory.old) slot.old place ≡ 0 → slot.new.slides ≡ slot.old.slides }
 {
     match place_status(memory.len(), *slot, place) {
         OK => outcome_status(slot.release(memory, SLOT_START + place)),
@@ -77,7 +78,8 @@ pub extern "C" fn vf_flex_resize(
         moved_to.new ≡ place_or (answer_of (resize_granted memory.old slot.old place delta)) moved_to.old }
     ensures left { place_status (length memory.old) slot.old place ≡ 0 →
         LeavesLentSlot memory.old memory.new slot.old slot.new (resize_granted memory.old slot.old place delta) }
-    ensures slides { CountsSlides memory.old memory.new slot.old slot.new }
+    ensures slides { place_status (length memory.old) slot.old place ≡ 0 →
+        CountsSlides memory.old memory.new slot.old slot.new }
 {
     match place_status(memory.len(), *slot, place) {
         OK => give_place(

@@ -43,7 +43,7 @@ pub extern "C" fn vf_flex_checked_alloc(
         place.new ≡ place_or (answer_of (alloc_granted memory.old slot.old anchor n)) place.old }
     ensures left { checked_anchor_status memory.old slot.old anchor ≡ 0 →
         LeavesLentSlot memory.old memory.new slot.old slot.new (alloc_granted memory.old slot.old anchor n) }
-    ensures slides { slot.new.slides ≡ slot.old.slides }
+    ensures slides { checked_anchor_status memory.old slot.old anchor ≡ 0 → slot.new.slides ≡ slot.old.slides }
 {
     match checked_anchor_status(memory, *slot, anchor) {
         OK => flex::vf_flex_alloc(memory, slot, anchor, n, place),
@@ -82,7 +82,8 @@ pub extern "C" fn vf_flex_checked_free(memory: &mut [u8], slot: &mut LentSlot, a
         result ≡ status_of (free_granted memory.old slot.old anchor) }
     ensures left { checked_anchor_status memory.old slot.old anchor ≡ 0 →
         LeavesLentSlot memory.old memory.new slot.old slot.new (free_granted memory.old slot.old anchor) }
-    ensures slides { CountsSlides memory.old memory.new slot.old slot.new }
+    ensures slides { checked_anchor_status memory.old slot.old anchor ≡ 0 →
+        CountsSlides memory.old memory.new slot.old slot.new }
 {
     match checked_anchor_status(memory, *slot, anchor) {
         OK => flex::vf_flex_free(memory, slot, anchor),
@@ -104,7 +105,8 @@ pub extern "C" fn vf_flex_checked_extend(
         result ≡ status_of (extend_granted memory.old slot.old anchor n) }
     ensures left { checked_anchor_status memory.old slot.old anchor ≡ 0 →
         LeavesLentSlot memory.old memory.new slot.old slot.new (extend_granted memory.old slot.old anchor n) }
-    ensures slides { CountsSlides memory.old memory.new slot.old slot.new }
+    ensures slides { checked_anchor_status memory.old slot.old anchor ≡ 0 →
+        CountsSlides memory.old memory.new slot.old slot.new }
 {
     match checked_anchor_status(memory, *slot, anchor) {
         OK => flex::vf_flex_extend(memory, slot, anchor, n),
@@ -127,7 +129,8 @@ pub extern "C" fn vf_flex_checked_midextend(
         result ≡ status_of (mid_granted memory.old slot.old anchor offset by) }
     ensures left { checked_anchor_status memory.old slot.old anchor ≡ 0 →
         LeavesLentSlot memory.old memory.new slot.old slot.new (mid_granted memory.old slot.old anchor offset by) }
-    ensures slides { CountsSlides memory.old memory.new slot.old slot.new }
+    ensures slides { checked_anchor_status memory.old slot.old anchor ≡ 0 →
+        CountsSlides memory.old memory.new slot.old slot.new }
 {
     match checked_anchor_status(memory, *slot, anchor) {
         OK => flex::vf_flex_midextend(memory, slot, anchor, offset, by),
@@ -173,7 +176,7 @@ pub extern "C" fn vf_flex_checked_put(
     ensures left { checked_anchor_status memory.old slot.old anchor ≡ 0 →
         LeavesLentSlot memory.old memory.new slot.old slot.new
         (put_granted memory.old slot.old anchor offset from.now) }
-    ensures slides { slot.new.slides ≡ slot.old.slides }
+    ensures slides { checked_anchor_status memory.old slot.old anchor ≡ 0 → slot.new.slides ≡ slot.old.slides }
 {
     match checked_anchor_status(memory, *slot, anchor) {
         OK => flex::vf_flex_put(memory, slot, anchor, offset, from),
@@ -222,7 +225,7 @@ pub extern "C" fn vf_flex_checked_claim(
         place.new ≡ place_or (answer_of (claim_granted memory.old slot.old n)) place.old }
     ensures left { image_status memory.old slot.old ≡ 0 →
         LeavesLentSlot memory.old memory.new slot.old slot.new (claim_granted memory.old slot.old n) }
-    ensures slides { CountsSlides memory.old memory.new slot.old slot.new }
+    ensures slides { image_status memory.old slot.old ≡ 0 → CountsSlides memory.old memory.new slot.old slot.new }
 {
     match image_status(memory, *slot) {
         OK => c_heap::vf_flex_claim(memory, slot, n, place),
@@ -243,7 +246,7 @@ pub extern "C" fn vf_flex_checked_release(
         result ≡ status_of (release_granted memory.old slot.old place) }
     ensures left { checked_place_status memory.old slot.old place ≡ 0 →
         LeavesLentSlot memory.old memory.new slot.old slot.new (release_granted memory.old slot.old place) }
-    ensures slides { slot.new.slides ≡ slot.old.slides }
+    ensures slides { checked_place_status memory.old slot.old place ≡ 0 → slot.new.slides ≡ slot.old.slides }
 {
     match checked_place_status(memory, *slot, place) {
         OK => c_heap::vf_flex_release(memory, slot, place),
@@ -269,7 +272,8 @@ pub extern "C" fn vf_flex_checked_resize(
         moved_to.new ≡ place_or (answer_of (resize_granted memory.old slot.old place delta)) moved_to.old }
     ensures left { checked_place_status memory.old slot.old place ≡ 0 →
         LeavesLentSlot memory.old memory.new slot.old slot.new (resize_granted memory.old slot.old place delta) }
-    ensures slides { CountsSlides memory.old memory.new slot.old slot.new }
+    ensures slides { checked_place_status memory.old slot.old place ≡ 0 →
+        CountsSlides memory.old memory.new slot.old slot.new }
 {
     match checked_place_status(memory, *slot, place) {
         OK => c_heap::vf_flex_resize(memory, slot, place, delta, moved_to),

@@ -33,7 +33,7 @@ pub extern "C" fn vf_flex_alloc(
         place.new ≡ place_or (answer_of (alloc_granted memory.old slot.old anchor n)) place.old }
     ensures left { anchor_status (length memory.old) slot.old anchor ≡ 0 →
         LeavesLentSlot memory.old memory.new slot.old slot.new (alloc_granted memory.old slot.old anchor n) }
-    ensures slides { slot.new.slides ≡ slot.old.slides }
+    ensures slides { anchor_status (length memory.old) slot.old anchor ≡ 0 → slot.new.slides ≡ slot.old.slides }
 {
     match anchor_status(memory.len(), *slot, anchor) {
         OK => give_place(slot.alloc(memory, Anchor(anchor as u8), nearest(n)), place),
@@ -69,7 +69,8 @@ pub extern "C" fn vf_flex_free(memory: &mut [u8], slot: &mut LentSlot, anchor: u
         result ≡ status_of (free_granted memory.old slot.old anchor) }
     ensures left { anchor_status (length memory.old) slot.old anchor ≡ 0 →
         LeavesLentSlot memory.old memory.new slot.old slot.new (free_granted memory.old slot.old anchor) }
-    ensures slides { CountsSlides memory.old memory.new slot.old slot.new }
+    ensures slides { anchor_status (length memory.old) slot.old anchor ≡ 0 →
+        CountsSlides memory.old memory.new slot.old slot.new }
 {
     match anchor_status(memory.len(), *slot, anchor) {
         OK => outcome_status(slot.free(memory, Anchor(anchor as u8))),
@@ -92,7 +93,8 @@ pub extern "C" fn vf_flex_extend(
         result ≡ status_of (extend_granted memory.old slot.old anchor n) }
     ensures left { anchor_status (length memory.old) slot.old anchor ≡ 0 →
         LeavesLentSlot memory.old memory.new slot.old slot.new (extend_granted memory.old slot.old anchor n) }
-    ensures slides { CountsSlides memory.old memory.new slot.old slot.new }
+    ensures slides { anchor_status (length memory.old) slot.old anchor ≡ 0 →
+        CountsSlides memory.old memory.new slot.old slot.new }
 {
     match anchor_status(memory.len(), *slot, anchor) {
         OK => outcome_status(slot.extend(memory, Anchor(anchor as u8), nearest(n))),
@@ -116,7 +118,8 @@ pub extern "C" fn vf_flex_midextend(
         result ≡ status_of (mid_granted memory.old slot.old anchor offset by) }
     ensures left { anchor_status (length memory.old) slot.old anchor ≡ 0 →
         LeavesLentSlot memory.old memory.new slot.old slot.new (mid_granted memory.old slot.old anchor offset by) }
-    ensures slides { CountsSlides memory.old memory.new slot.old slot.new }
+    ensures slides { anchor_status (length memory.old) slot.old anchor ≡ 0 →
+        CountsSlides memory.old memory.new slot.old slot.new }
 {
     match anchor_status(memory.len(), *slot, anchor) {
         OK => outcome_status(slot.mid(memory, Anchor(anchor as u8), offset, nearest_amount(by))),
@@ -164,7 +167,7 @@ pub extern "C" fn vf_flex_put(
     ensures left { anchor_status (length memory.old) slot.old anchor ≡ 0 →
         LeavesLentSlot memory.old memory.new slot.old slot.new
         (put_granted memory.old slot.old anchor offset from.now) }
-    ensures slides { slot.new.slides ≡ slot.old.slides }
+    ensures slides { anchor_status (length memory.old) slot.old anchor ≡ 0 → slot.new.slides ≡ slot.old.slides }
 {
     match anchor_status(memory.len(), *slot, anchor) {
         OK => outcome_status(slot.put(memory, Anchor(anchor as u8), offset, from)),
