@@ -150,6 +150,7 @@ fn ask_flex(
         "list" => shown(alloc, listed(bytes, slot)),
         "walk" => shown(alloc, walked(bytes, slot)),
         "slot" => shown(alloc, slot),
+        "slides" => shown(alloc, slot.slides),
         "read" => read(alloc, bytes, slot, row),
         "word" => word_at(alloc, bytes, row.size(1)?),
         "bytes" => bytes_at(alloc, bytes, row.size(1)?),
