@@ -18,6 +18,7 @@ import cinstall
 import ctests
 import header
 import outcome
+from targets import OTHERS
 
 PREFIX = "/opt/of-a-port"
 # The compilers, and of each language the standards in which the header is tried.
@@ -126,9 +127,22 @@ def try_command(port):
         port.ran("bin/clib install", [*command, *own], env=dict(plain, **more))
         there = f"{to}/lib/libvervainfile.so"
         port.is_true(f"bin/clib install {own} {more}", os.path.isfile(there) and os.path.islink(there))
-    for words in (["PREFX=/usr"], ["PREFIX=usr"], ["--build"]):
+    for words in (["PREFX=/usr"], ["PREFIX=usr"], ["--build"], ["MACHINE=pdp11"]):
         port.fails(f"bin/clib install {words[0]}", [*command, *words], env=dict(plain, DESTDIR=f"{port.work}/no"))
     port.is_true("a refused install leaves files", not os.path.exists(f"{port.work}/no"))
+
+
+def try_machines(port):
+    """What is installed for another machine is what dist/lib has for it, and the header is the same."""
+    for target in OTHERS.values():
+        to, of = f"{port.work}/{target.name}", f"{port.top}/dist/lib"
+        words = ["install", f"MACHINE={target.name}", "PREFIX=/usr", f"DESTDIR={to}"]
+        if port.ran(" ".join(words), [sys.executable, f"{port.top}/bin/clib", *words]) is not None:
+            pairs = {f"lib/lib{archive.NAME}.a": archive.path(target.folder(of)),
+                     f"lib/{archive.SHARED}": archive.shared(target.folder(of)),
+                     f"include/{archive.NAME}.h": f"{of}/{archive.NAME}.h"}
+            for name, source in pairs.items():
+                port.is_true(f"{name} for {target.name} is another", filecmp.cmp(f"{to}/usr/{name}", source, False))
 
 
 def try_names(port):
@@ -269,7 +283,7 @@ def run_all(port):
         calls += [pool.submit(try_standard, port, it, standard, compiling)
                   for it in there for standard in STANDARDS[COMPILERS[it]]]
         calls.append(pool.submit(try_page, port, compiling))
-        calls += [pool.submit(it, port) for it in (try_command, try_names, try_cmake, try_python)]
+        calls += [pool.submit(it, port) for it in (try_command, try_machines, try_names, try_cmake, try_python)]
     for it in calls:
         try:
             it.result()
