@@ -1,5 +1,5 @@
 -- Worked bad words, lost files and inputs: what is wrong with each, and what is told.
-use Rattle.std.proofs.Common.{◌≡◌, refl, ap, ◌∙◌, sym, arith, ℕ, ◌+◌, ◌<◌, List, [], ◌∷◌, ◌++◌, length, codes, Option, Some}
+use Rattle.std.proofs.Common.{◌≡◌, refl, ap, ◌∙◌, sym, subst, arith, ℕ, ◌+◌, ◌<◌, List, [], ◌∷◌, ◌++◌, length, codes, Option, Some}
 use Rattle.std.specs.declared.io.ErrorKind.TheVariants as kind
 use Rattle.rh_defs.proofs.Common.{append-nil, length-append, length-replicate}
 use Rattle.rh_defs.specs.Pieces.{zeros}
@@ -47,8 +47,9 @@ told_no_path = refl
 abbrev sized : ℕ → Option (List ℕ)
 sized n = Some (zeros n)
 
-a_byte_too_many : MayBeLost sized TooLong
-a_byte_too_many = (LONGEST_FILE + 1, omega (arith, length-replicate {A = ℕ} (LONGEST_FILE + 1) 0))
+-- one of more bytes than a file may have is too long
+one_too_long : (n : ℕ) → LONGEST_FILE < n → MayBeLost sized TooLong
+one_too_long n more = (n, subst (λ k. LONGEST_FILE < k) (sym (length-replicate {A = ℕ} n 0)) more)
 
 -- files of two bytes are too long for no one
 none_too_long : MayBeLost {F = ℕ} (λ n. Some (1 ∷ 2 ∷ [])) TooLong → ⊥
@@ -75,5 +76,6 @@ not_too_many rest many =
     let long = many.1 in
     absurd (omega (arith, long, size))
 
-one_too_many : HasTooMany (unread (zeros (LONGEST_FILE + 1))) (read_once [])
-one_too_many = (zeros (LONGEST_FILE + 1), omega (arith, length-replicate {A = ℕ} (LONGEST_FILE + 1) 0), sym (append-nil (zeros (LONGEST_FILE + 1))))
+-- more bytes than a file may have are too many
+too_many : (n : ℕ) → LONGEST_FILE < n → HasTooMany (unread (zeros n)) (read_once [])
+too_many n more = (zeros n, subst (λ k. LONGEST_FILE < k) (sym (length-replicate {A = ℕ} n 0)) more, sym (append-nil (zeros n)))

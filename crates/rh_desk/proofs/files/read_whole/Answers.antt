@@ -2,6 +2,7 @@ use Rattle.std.proofs.Common.{◌≤◌, ◌∙◌, inl, inr, refl, rules, subst
 use Rattle.rh_session.specs.declared.status.RunFault.TheVariants.{NoMemory}
 use Rattle.rh_desk.proofs.DoneLemmas.{lost-by, too-long, whole-is}
 use Rattle.rh_defs.specs.declared.sizes.TheConstants.{LONGEST_FILE}
+use Rattle.rh_desk.specs.declared.reasons.FileLoss.TheVariants.{TooLong}
 use Rattle.rh_desk.proofs.files.read_whole.Goals as goal
 
 pub returns-in-Err-clause-told : goal.returns-in-Err-clause-told
@@ -9,7 +10,7 @@ returns-in-Err-clause-told g c = inr (c.ended.ensures.told NoMemory refl)
 
 pub returns-in-Ok-2-clause-told : goal.returns-in-Ok-2-clause-told
 returns-in-Ok-2-clause-told g c =
-    inl (_, too-long g.R.File.Read.remaining _ _ c.new-bytes.ensures.items (search rules) c.in-Ok-2.ensures, c.tell_file.ensures.told)
+    inl (TooLong, too-long g.R.File.Read.remaining _ _ c.new-bytes.ensures.items (search rules) c.in-Ok-2.ensures, c.tell_file.ensures.told)
 
 pub returns-clause-told : goal.returns-clause-told
 returns-clause-told g c = inl (_, lost-by g.R.File.Read.remaining _ _ c.of.ensures, c.tell_file-in-Err-2.ensures.told)
