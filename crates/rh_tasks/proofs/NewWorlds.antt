@@ -11,7 +11,8 @@ use Rattle.rh_tasks.specs.declared.next_numbers.NextNumbers.{NextNumbers}
 use Rattle.rh_wimp.proofs.PostCalls.{post_in-starts}
 use Rattle.rh_tasks.specs.Inner.Start.{IsFurnished}
 
-same-next : {a a' b b' : ℕ} → a ≡ a' → b ≡ b' → (let x : NextNumbers = record { handle = a; area = b } in x) ≡ (let y : NextNumbers = record { handle = a'; area = b' } in y)
+same-next : {a a' b b' : ℕ} → a ≡ a' → b ≡ b'
+    → (let x : NextNumbers = record { handle = a; area = b } in x) ≡ (let y : NextNumbers = record { handle = a'; area = b' } in y)
 same-next p q = cc
 
 pub first-next : (n : NextNumbers) (handle : ℕ) → n.handle ≡ handle → n.area ≡ first_made → n ≡ record { handle = handle; area = first_made }
