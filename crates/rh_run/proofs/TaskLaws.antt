@@ -27,18 +27,17 @@ use Rattle.rh_scene.specs.declared.sight.HeapOf.{HeapOf}
 use Rattle.rh_scene.specs.declared.sight.HeapOf.TheVariants as heap_of
 use Rattle.rh_scene.specs.Seen.{SeesBlock, HasFlex, IsBlockAt, heap_seen}
 use Rattle.rh_scene.proofs.Heaps as heaps
-use Rattle.rh_tasks.specs.declared.sights.LiveTask.{LiveTask}
 use Rattle.rh_tasks.specs.WorldLists.{items_at, segment_items_at}
-use Rattle.rh_tasks.specs.Sights.{IsSeen, blocks_in, module_shown, segments_in, slot_bytes}
+use Rattle.rh_tasks.specs.Sights.{blocks_in, module_shown, segments_in, slot_bytes}
 use Rattle.rh_tasks.proofs.Chains.{begins, past}
 use Rattle.rh_tasks.proofs.FirstBytes.{first-read, flex-first, flex-holds, heap-first, heap-holds}
 use Rattle.rh_tasks.proofs.ModuleCommands.{unmarked-is}
 use Rattle.rh_run.proofs.SegmentLaws.{from_place}
 
 -- ---- a task that is seen
-pub there : (s : LiveTask) (o : Option Task) → IsSeen (Some s) o → (t : Task) × (o ≡ Some t)
-there s None seen = absurd seen
-there s (Some t) seen = (t, refl)
+pub there : (h : ℕ) (o : Option Task) → Some h ≡ option_map (λ (t : Task). t.handle) o → (t : Task) × (o ≡ Some t)
+there h None e = absurd (cc)
+there h (Some t) e = (t, refl)
 
 -- ---- what is granted
 pub is-granted : {A B : Type 0} (Q : Refusal → Type 0) (r : Result A Refusal) (g : Granted B) (y : B) → IfErr r (λ e. (g ≡ Err e) × Q e) → g ≡ Ok y → IsOk r

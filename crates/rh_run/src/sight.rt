@@ -76,14 +76,14 @@ impl<S: Sited, F: NamedFiles> Sight for ScriptWorld<S, F> {
     }
 
     fn blocks(&self, i: usize, items: &mut ArrayVec<BlockItem, ANCHORS>) {
-        if let Some(task) = self.world.task(i) {
-            self.world.blocks_in(task.handle, items).unwrap();
+        if let Some(handle) = self.world.handle_at(i) {
+            self.world.blocks_in(handle, items).unwrap();
         }
     }
 
     fn read_block(&self, i: usize, item: &BlockItem, to: &mut [u8]) {
-        if let Some(task) = self.world.task(i) {
-            self.world.read_slot(task.handle, item.address, to).unwrap();
+        if let Some(handle) = self.world.handle_at(i) {
+            self.world.read_slot(handle, item.address, to).unwrap();
         }
     }
 
@@ -100,8 +100,8 @@ impl<S: Sited, F: NamedFiles> Sight for ScriptWorld<S, F> {
     fn segments(&self, heap: HeapOf, place: u32) -> Segments {
         self.world.recall_spelling();
         match heap {
-            HeapOf::Task(i) => match self.world.task(i) {
-                Some(task) => self.world.segments_in(task.handle, place).unwrap(),
+            HeapOf::Task(i) => match self.world.handle_at(i) {
+                Some(handle) => self.world.segments_in(handle, place).unwrap(),
                 None => ArrayVec::new(),
             },
             HeapOf::Module => self.world.module_segments(place),
@@ -112,9 +112,9 @@ impl<S: Sited, F: NamedFiles> Sight for ScriptWorld<S, F> {
         self.world.recall_spelling();
         match heap {
             HeapOf::Task(i) => {
-                if let Some(task) = self.world.task(i) {
+                if let Some(handle) = self.world.handle_at(i) {
                     let address = block_address(C_HEAP_START, place);
-                    self.world.read_slot(task.handle, address, to).unwrap();
+                    self.world.read_slot(handle, address, to).unwrap();
                 }
             }
             HeapOf::Module => {

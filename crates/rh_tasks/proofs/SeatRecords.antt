@@ -10,14 +10,6 @@ use Rattle.rh_defs.proofs.Desks.{with_sending-keeps, with_taking-keeps}
 use Rattle.rh_ram.specs.Due.{is_send_due, is_take_due}
 use Rattle.rh_tasks.specs.Inner.PollSteps.{CanSend, CanTake}
 
--- ---- what is told of an action that is due
-
-pub is-taken : {A : Type 0} {g : Granted A} {x : A} {r : Result (Unit {0}) Refusal} → g ≡ Ok x → r ≡ outcome_of g → IsOk r
-is-taken e q = rw (q, e) refl
-
-pub was-taken : {A : Type 0} {g : Granted A} {x new : A} (old : A) → g ≡ Ok x → new ≡ result_or old g → new ≡ x
-was-taken old e q = q ∙ rw e refl
-
 -- ---- the task at a place
 
 module _ {m : Memory} {seats : List Seat} {made : List MadeArea} {files : FileList} {kept : Kept}
@@ -38,15 +30,24 @@ module _ {m : Memory} {seats : List Seat} {made : List MadeArea} {files : FileLi
     unfolding task_of
     handle-at t there = ap (λ (x : Task). x.handle) (mapped-is (task_of m) seats i s t at there)
 
-    -- an action that is due by the task's records is due by the seat's, and the other way round
-    pub sends-at : (a : SendAction) → CanSend i a d → is_send_due a s.sending ≡ true
+    -- what holds of the task's records holds of the seat's
+    pub sends-as : (P : List Outgoing → Type 0) (t : Task) → IsAt i t d → P t.sending → P s.sending
     unfolding task_of
-    sends-at a can = can (task_of m s) (mapped-at (task_of m) seats i s at)
+    sends-as P t there p = subst (λ (x : Task). P x.sending) (sym (mapped-is (task_of m) seats i s t at there)) p
 
-    pub takes-at : (a : TakeAction) → CanTake i a d → is_take_due a s.taking ≡ true
+    pub takes-as : (P : List Incoming → Type 0) (t : Task) → IsAt i t d → P t.taking → P s.taking
     unfolding task_of
-    takes-at a can = can (task_of m s) (mapped-at (task_of m) seats i s at)
+    takes-as P t there p = subst (λ (x : Task). P x.taking) (sym (mapped-is (task_of m) seats i s t at there)) p
 
+    pub sends-own : (P : List Outgoing → Type 0) → ((t : Task) → IsAt i t d → P t.sending) → P s.sending
+    unfolding task_of
+    sends-own P all = all (task_of m s) (mapped-at (task_of m) seats i s at)
+
+    pub takes-own : (P : List Incoming → Type 0) → ((t : Task) → IsAt i t d → P t.taking) → P s.taking
+    unfolding task_of
+    takes-own P all = all (task_of m s) (mapped-at (task_of m) seats i s at)
+
+    -- an action that is due by the seat's records is due by the task's
     pub can-send : (a : SendAction) → is_send_due a s.sending ≡ true → CanSend i a d
     unfolding task_of
     can-send a due t there = subst (λ (x : Task). is_send_due a x.sending ≡ true) (mapped-is (task_of m) seats i s t at there) due
@@ -80,7 +81,7 @@ module _ {m : Memory} {seats : List Seat} {made : List MadeArea} {files : FileLi
             task = ap (λ (l : List Outgoing). let t : Task = record (task_of m s) { sending = l } in t) is;
           }
 
-      sending-desk : desk_of m (set seats i sending_seat) made files kept ≡ with_sending s.handle edit d
+      pub sending-desk : desk_of m (set seats i sending_seat) made files kept ≡ with_sending s.handle edit d
       sending-desk = moved-desk w at sending-moves
 
       pub sending-world : IsWorld m (set seats i sending_seat) made files kept
@@ -106,7 +107,7 @@ module _ {m : Memory} {seats : List Seat} {made : List MadeArea} {files : FileLi
             task = ap (λ (l : List Incoming). let t : Task = record (task_of m s) { taking = l } in t) is;
           }
 
-      taking-desk : desk_of m (set seats i taking_seat) made files kept ≡ with_taking s.handle edit d
+      pub taking-desk : desk_of m (set seats i taking_seat) made files kept ≡ with_taking s.handle edit d
       taking-desk = moved-desk w at taking-moves
 
       pub taking-world : IsWorld m (set seats i taking_seat) made files kept

@@ -94,7 +94,7 @@ impl<S: Store, F: NamedFiles> World<S, F> {
         self.alloc_document(i, anchor).unwrap();
         let letter = fetch_letter(handle, &first_fetch(a, buffer, room));
         let fetch = self.send_from(i, letter).unwrap();
-        self.record_fetching(i, a, anchor, buffer, fetch);
+        self.edit_taking(i, |records| records.fetching(a, anchor, buffer, fetch));
         Some(fetch)
     }
 

@@ -121,7 +121,7 @@ impl<S: Store, F: NamedFiles> World<S, F> {
             → self.new.desk ≡ taking_ended t.handle f.now (after_failure action.now kept) self.old.desk }
     {
         self.drop_buffer(i, f.buffer);
-        self.record_failed_in(i, action, kept);
+        self.edit_taking(i, |records| records.failed(action, kept));
     }
 
     /// Asks for the next bytes of a transfer: NoTask, NoRefs, QueueFull, NoRoom.
@@ -135,7 +135,7 @@ impl<S: Store, F: NamedFiles> World<S, F> {
         let seat = &self.seats[i];
         let letter = fetch_letter(seat.handle, fetch);
         let fetch = self.send_from(i, letter)?;
-        self.record_fetched(i, a, fetch);
+        self.edit_taking(i, |records| records.fetched(a, fetch));
         Ok(Outcome::TookFull { count: a.n, fetch })
     }
 
@@ -149,7 +149,7 @@ impl<S: Store, F: NamedFiles> World<S, F> {
         match &a.next {
             Next::Finish => {
                 self.drop_buffer(i, a.transfer.buffer);
-                self.record_finished(i, a);
+                self.edit_taking(i, |records| records.finished(a));
                 Outcome::TookLast { count: a.n }
             }
             Next::Fetch(fetch) => match self.fetch_more(i, a, fetch) {
@@ -191,7 +191,7 @@ impl<S: Store, F: NamedFiles> World<S, F> {
         let letter = ack_letter(seat.handle, f);
         let ack = self.send_from(i, letter)?;
         self.drop_buffer(i, f.buffer);
-        self.record_asking(i, f, ack);
+        self.edit_taking(i, |records| records.asking(f, ack));
         Ok(Outcome::Asked(ack))
     }
 

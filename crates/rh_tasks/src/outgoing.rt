@@ -176,7 +176,7 @@ impl<S: Store, F: NamedFiles> World<S, F> {
         let letter = transmit_letter(sender.handle, a, &portion.part);
         let transmit = self.send_from(i, letter)?;
         self.write_portion(i, a, target, portion);
-        self.record_sent(i, a, portion.size, transmit);
+        self.edit_sending(i, |records| records.sent(a, portion.size, transmit));
         Ok(Outcome::Sent {
             count: portion.part.n,
             transmit,
@@ -192,7 +192,7 @@ impl<S: Store, F: NamedFiles> World<S, F> {
     {
         let seat = &self.seats[i];
         let size = document_size(&self.store, seat.slot, x.anchor)?;
-        self.record_loaded_out(i, x, size);
+        self.edit_sending(i, |records| records.loaded(x, size));
         Ok(Outcome::Done)
     }
 
@@ -223,7 +223,7 @@ impl<S: Store, F: NamedFiles> World<S, F> {
         match self.send_with(i, &action) {
             Ok(outcome) => outcome,
             Err(refusal) => {
-                self.record_failed_out(i, &action);
+                self.edit_sending(i, |records| records.failed(&action));
                 Outcome::Refused(refusal)
             }
         }

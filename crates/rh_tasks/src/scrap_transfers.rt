@@ -48,7 +48,7 @@ impl<S: Store, F: NamedFiles> World<S, F> {
         self.widen_scrap(wider);
         let load = self.send_from(i, letter).unwrap();
         self.fill_scrap(i, a.transfer.anchor, size, load);
-        self.record_saved(i, a, load);
+        self.edit_sending(i, |records| records.saved(a, load));
         Ok(Outcome::Saved { count: size, load })
     }
 
@@ -74,11 +74,11 @@ impl<S: Store, F: NamedFiles> World<S, F> {
         let letter = load_ack_letter(seat.handle, a, n);
         match self.send_from(i, letter) {
             Ok(_) => {
-                self.record_loaded_in(i, a, n);
+                self.edit_taking(i, |records| records.loaded(a, n));
                 Outcome::Loaded { count: n }
             }
             Err(refusal) => {
-                self.record_failed_in(i, &TakeAction::LoadFile(*a), n);
+                self.edit_taking(i, |records| records.failed(&TakeAction::LoadFile(*a), n));
                 Outcome::LoadedFailed { count: n, refusal }
             }
         }
@@ -103,7 +103,7 @@ impl<S: Store, F: NamedFiles> World<S, F> {
                 self.loaded(i, a, file.size)
             }
             Err(refusal) => {
-                self.record_failed_in(i, &TakeAction::LoadFile(*a), 0);
+                self.edit_taking(i, |records| records.failed(&TakeAction::LoadFile(*a), 0));
                 Outcome::Refused(refusal)
             }
         }

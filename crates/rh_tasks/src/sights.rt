@@ -4,7 +4,7 @@
 ghost use Rattle.std.specs.Prelude.{◌≡◌, ◌+◌, ◌≤◌, ◌↔◌, Ok, Err, IfErr, IfOk, IfSome, IsTrue, OnOk, length, slice_get};
 ghost use Rattle.std.specs.Option.{option_map};
 ghost use Rattle.std.specs.Result.{MatchResult};
-ghost use Rattle.rh_defs.specs.Desk.{module_start, most_made, most_tasks, next_ref as next_ref_on, task_at};
+ghost use Rattle.rh_defs.specs.Desk.{Task, module_start, most_made, most_tasks, next_ref as next_ref_on, task_at};
 ghost use Rattle.rh_defs.specs.Messages.{Parcel};
 ghost use Rattle.rh_defs.specs.Records.{most_records};
 ghost use Rattle.rh_wimp.specs.QueueItems.{message_items, with_message};
@@ -98,6 +98,17 @@ impl<S: Store, F: NamedFiles> World<S, F> {
             taking: seat.taking.records(),
             last_sent: seat.last_sent.as_ref(),
         })
+    }
+
+    /// The handle of live task i in order of handle; None past the last.
+    pub fn handle_at(&self, i: usize) -> Option<Handle>
+        ensures handle { result ≡ option_map (λ (t : Task). t.handle) (slice_get self.now.desk.tasks i) }
+        ensures live { IfSome result (λ h. task_at h self.now.desk ≡ slice_get self.now.desk.tasks i) }
+    {
+        if i >= self.seats.len() {
+            return None;
+        }
+        Some(self.seats[i].handle)
     }
 
     /// Puts all flex blocks of a live task from below into a list, in place of what it held; NoTask where the task

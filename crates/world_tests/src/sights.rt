@@ -20,6 +20,7 @@ pub(crate) fn ask<S: Store, F: NamedFiles>(
 ) -> Option<String> {
     match word {
         "task" => task(alloc, world, row.size(1)?),
+        "handle_at" => shown(alloc, world.handle_at(row.size(1)?)),
         "blocks_in" => lists::blocks_in(alloc, world, row.handle(1)?),
         "segments_in" => shown(alloc, world.segments_in(row.handle(1)?, row.number(2)?)),
         "read_slot" => read_slot(alloc, world, row),

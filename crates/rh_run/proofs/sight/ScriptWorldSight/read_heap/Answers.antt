@@ -7,7 +7,7 @@ use Rattle.rh_run.proofs.sight.ScriptWorldSight.read_heap.Goals as goal
 pub block_address-address-requires : goal.block_address-address-requires
 block_address-address-requires g c =
     let d = c.args.self.now.world.desk in
-    let t = there c.in-Some.task _ c.in-Some.ensures.task in
+    let t = there c.in-Some.handle _ c.in-Some.ensures.handle in
     let wanted = c.requires.block in
     let room =
     block-room _ c.args.place wanted.0 (in-heap d c.args.heap c.in-Task.i t.0 c.args.place wanted.0 c.in-Task.is t.1 wanted.1)
@@ -17,7 +17,7 @@ block_address-address-requires g c =
 pub unwrap-requires : goal.unwrap-requires
 unwrap-requires g c =
     let d = c.args.self.now.world.desk in
-    let t = there c.in-Some.task _ c.in-Some.ensures.task in
+    let t = there c.in-Some.handle _ c.in-Some.ensures.handle in
     let wanted = c.requires.block in
     let here = in-heap d c.args.heap c.in-Task.i t.0 c.args.place wanted.0 c.in-Task.is t.1 wanted.1 in
     rw (as-granted _ _ _ _ c.read_slot.ensures
@@ -27,7 +27,7 @@ unwrap-requires g c =
 pub returns-in-Some : goal.returns-in-Some
 returns-in-Some g c = λ bytes has.
     let d = c.args.self.now.world.desk in
-    let t = there c.in-Some.task _ c.in-Some.ensures.task in
+    let t = there c.in-Some.handle _ c.in-Some.ensures.handle in
     let wanted = c.requires.block in
     let is = task-seen c.recall_spelling.ensures.desk c.in-Task.i t.0 t.1 in
     let first = in-heap d c.args.heap c.in-Task.i t.0 c.args.place wanted.0 c.in-Task.is t.1 wanted.1 in

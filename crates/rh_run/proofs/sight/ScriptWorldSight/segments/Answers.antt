@@ -12,14 +12,14 @@ use Rattle.rh_run.proofs.sight.ScriptWorldSight.segments.Goals as goal
 pub unwrap-requires : goal.unwrap-requires
 unwrap-requires g c =
     let d = c.args.self.now.world.desk in
-    let t = there c.in-Some.task _ c.in-Some.ensures.task in
+    let t = there c.in-Some.handle _ c.in-Some.ensures.handle in
     granted-none c.segments_in.result _ (segment_items_at c.args.place t.0.slot.heap) c.segments_in.ensures.err
     (segments-there d _ t.0 (c.in-Some.ensures.live ∙ t.1) c.args.place)
 
 pub returns-in-Some : goal.returns-in-Some
 returns-in-Some g c =
     let d = c.args.self.now.world.desk in
-    let t = there c.in-Some.task _ c.in-Some.ensures.task in
+    let t = there c.in-Some.handle _ c.in-Some.ensures.handle in
     let told =
     granted-if _ c.segments_in.result c.unwrap.result _ (segment_items_at c.args.place t.0.slot.heap) c.segments_in.ensures.ok c.unwrap.ensures
     (segments-there d _ t.0 (c.in-Some.ensures.live ∙ t.1) c.args.place) in

@@ -1,9 +1,11 @@
+use Rattle.std.proofs.Common.{rules}
 use Rattle.rh_tasks.proofs.Common.{ap, err_from_is_err_and, Letter, task_of, Sits}
 use Rattle.rh_tasks.proofs.Buffers.{sits-there, seat-there, seat-handle}
 use Rattle.rh_tasks.proofs.Writes.{alike-both}
 use Rattle.rh_defs.specs.declared.transfer_action.TakeAction.TheVariants as take
 use Rattle.rh_tasks.proofs.Dues.{records_of, sent-records, still-takes}
 use Rattle.rh_tasks.proofs.Takings.{inside, stands-sent, stands-dropped, dropped-records, ask-refused, ask-done}
+use Rattle.rh_defs.specs.Receiver as receiver
 use Rattle.rh_tasks.proofs.world.World.ask.Goals as goal
 
 pub send_from-requires : goal.send_from-requires
@@ -34,8 +36,8 @@ drop_buffer-requires g c =
     sent.1.0 sent.1.1
     (seat-there c.self.invariant c.self.view_is at))
 
-pub record_asking-requires-clause-place : goal.record_asking-requires-clause-place
-record_asking-requires-clause-place g c =
+pub edit_taking-requires-clause-place : goal.edit_taking-requires-clause-place
+edit_taking-requires-clause-place g c =
     let at : Sits c.self.inside.seats.items c.args.i c.index-seat.result.now =
     sits-there c.self.invariant c.self.view_is c.requires.place c.index-seat.ensures in
     let sent = c.in_ok-ack.ensures.1 in
@@ -46,8 +48,8 @@ record_asking-requires-clause-place g c =
     inside (stands-dropped c.send_from.new.self.desk c.drop_buffer.new.self.desk c.args.i s.task.handle c.args.f.now.buffer s.task
     (c.drop_buffer.ensures s.task s.at) s.at)
 
-pub record_asking-requires-clause-due : goal.record_asking-requires-clause-due
-record_asking-requires-clause-due g c =
+pub edit_taking-requires-clause-taken : goal.edit_taking-requires-clause-taken
+edit_taking-requires-clause-taken g c =
     let at : Sits c.self.inside.seats.items c.args.i c.index-seat.result.now =
     sits-there c.self.invariant c.self.view_is c.requires.place c.index-seat.ensures in
     let sent = c.in_ok-ack.ensures.1 in
@@ -55,8 +57,10 @@ record_asking-requires-clause-due g c =
     stands-sent c.ack_letter-letter.result c.args.self.now.desk sent.0 c.args.i (task_of (g.S.Words.memory c.self.inside.store) c.index-seat.result.now)
     sent.1.0 sent.1.1
     (seat-there c.self.invariant c.self.view_is at) in
-    still-takes (alike-both records_of (sent-records c.ack_letter-letter.result c.args.self.now.desk sent.0 sent.1.0 sent.1.1)
-    (dropped-records s.task.handle c.args.f.now.buffer (c.drop_buffer.ensures s.task s.at))) c.args.i (take.AskForFile c.args.f.now) c.requires.due
+    let due =
+    still-takes (alike-both records_of (sent-records c.ack_letter-letter.result c.args.self.now.desk sent.0 sent.1.0 sent.1.1) (dropped-records s.task.handle
+    c.args.f.now.buffer (c.drop_buffer.ensures s.task s.at))) c.args.i (take.AskForFile c.args.f.now) c.requires.due in
+    λ u there said new p. let is = due u there in search rules
 
 pub returns : goal.returns
 returns g c t there =
@@ -65,5 +69,6 @@ returns g c t there =
     let handle = seat-handle c.self.invariant c.self.view_is at there in
     let sent = c.in_ok-ack.ensures.1 in
     ask-done c.args.f.now c.args.self.now.desk c.args.i there handle c.ack_letter-letter.ensures c.in_ok-ack.ack sent.0 c.send_from.new.self.desk
-    c.drop_buffer.new.self.desk c.record_asking.new.self.desk
-    c.in_ok-ack.ensures.0 sent.1.0 sent.1.1 c.drop_buffer.ensures c.record_asking.ensures
+    c.drop_buffer.new.self.desk c.edit_taking.new.self.desk
+    c.in_ok-ack.ensures.0 sent.1.0 sent.1.1 c.drop_buffer.ensures
+    (λ u there. c.edit_taking.ensures u (receiver.asking c.args.f.now c.in_ok-ack.ack) there (λ new p. search rules))

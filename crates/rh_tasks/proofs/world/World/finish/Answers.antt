@@ -1,3 +1,4 @@
+use Rattle.std.proofs.Common.{rules}
 use Rattle.rh_tasks.proofs.Common.{◌≡◌, sym, ap, ◌∙◌, length, Ok, slot_block, with_sending, slot_in, task_of, err_from_is_err_and, refl, same-alike}
 use Rattle.rh_defs.specs.Sender as sender
 use Rattle.rh_tasks.proofs.Portions.{unsized, sized}
@@ -27,10 +28,13 @@ returns g c =
     λ t at.
     let there = rw (← c.self.view_is) at at in
     let is : t ≡ task_of m s = seat-is (seated m c.self.inside.seats.items c.args.i t there) s (sym c.index-seat.ensures) in
+    let now : c.edit_sending.new.self.desk ≡ with_sending t.handle (sender.sending_loaded x (length z.cut.here.bytes)) d =
+    c.edit_sending.ensures t (sender.sending_loaded x c.in_ok-size.size) at (λ new p. search rules)
+    ∙ ap (λ k. with_sending t.handle (sender.sending_loaded x k) d) z.long in
     let block : slot_block x.anchor t.slot ≡ Ok z.cut = rw is z.block in (
       with_sending t.handle (sender.sending_loaded x (length z.cut.here.bytes)) d,
       (
         load-done d t x block,
-        same-alike (sym (c.record_loaded_out.ensures t at ∙ ap (λ k. with_sending t.handle (sender.sending_loaded x k) d) z.long)),
+        same-alike (sym now),
       ),
     )

@@ -1,11 +1,33 @@
-use Rattle.rh_tasks.proofs.Common.{◌≡◌, refl, sym, ◌∙◌, arith, err_from_is_err_and, free_pages, scrap_shortage}
+use Rattle.std.proofs.Common.{rules}
+use Rattle.rh_tasks.proofs.Common.{◌≡◌, refl, sym, ◌∙◌, arith, err_from_is_err_and, free_pages, scrap_shortage, task_of}
 use Rattle.rh_tasks.proofs.Scraps.{seen-busy, seen-free, seen-shortage}
 use Rattle.rh_tasks.proofs.ScrapTransfers.{save-missing, save-busy, save-unsendable, full-is, short-is, sends-ok, own, first-at, first-sends, second-inside}
-use Rattle.rh_tasks.proofs.ScrapTransfers.{second-room, second-block, third-inside, saved-records, save-all}
+use Rattle.rh_tasks.proofs.ScrapTransfers.{Saves, Widens, second-room, second-block, third-inside, saved-records, save-all}
 use Rattle.rh_defs.specs.declared.transfer_action.SendAction.TheVariants as send
 use Rattle.rh_tasks.proofs.Dues.{still-sends}
 use Rattle.rh_tasks.proofs.SaveScenes.{own-there, size-is, pages-are, saves, widens}
+use Rattle.rh_defs.specs.Sender as sender
 use Rattle.rh_tasks.proofs.world.World.save_scrap.Goals as goal
+use Rattle.rh_tasks.proofs.world.World.save_scrap.Goals.{After-widen_scrap}
+use Rattle.rh_tasks.proofs.world.World.save_scrap.Given as given
+
+-- what is known once area 5 is longer
+saving : (g : given.Over) (c : After-widen_scrap g)
+    → Saves c.args.self.now.desk c.args.i (task_of (g.S.Words.memory c.self.inside.store) c.index-seat.result.now) c.args.a.now c.in_ok-size.size
+    c.load_letter-letter.result c.in_ok-more.more
+saving g c =
+    let w = c.self.invariant in
+    let at = own-there w c.self.view_is c.requires.place c.index-seat.ensures in
+    saves w c.self.view_is c.requires.place c.index-seat.ensures at c.args.a.now c.load_letter-letter.ensures c.in_ok-size.ensures c.if-is_some.ensures
+    c.in_ok-more.ensures
+
+shortage : (g : given.Over) (c : After-widen_scrap g) → c.saturating_sub-wider.result ≡ scrap_shortage c.in_ok-size.size c.args.self.now.desk
+shortage g c =
+    omega (arith, c.saturating_sub-wider.ensures, c.pages_for.ensures, c.len.ensures, seen-shortage c.self.invariant c.self.view_is c.in_ok-size.size)
+
+widened : (g : given.Over) (c : After-widen_scrap g) → Widens c.args.self.now.desk c.widen_scrap.new.self.desk c.in_ok-size.size
+widened g c =
+    widens c.self.invariant c.self.view_is (shortage g c) c.free_pages-free.ensures c.if-free-wider.false c.widen_scrap.ensures
 
 pub returns-in_err-size : goal.returns-in_err-size
 returns-in_err-size g c =
@@ -62,94 +84,55 @@ returns-then-free-wider-2 g c = λ t at.
 
 pub send_from-requires : goal.send_from-requires
 send_from-requires g c =
-    let w = c.self.invariant in
-    let at = own-there w c.self.view_is c.requires.place c.index-seat.ensures in
-    let a = saves w c.self.view_is c.requires.place c.index-seat.ensures at c.args.a.now c.load_letter-letter.ensures c.in_ok-size.ensures c.if-is_some.ensures
-    c.in_ok-more.ensures in
-    let short : c.saturating_sub-wider.result ≡ scrap_shortage c.in_ok-size.size c.args.self.now.desk =
-    omega (arith, c.saturating_sub-wider.ensures, c.pages_for.ensures, c.len.ensures, seen-shortage w c.self.view_is c.in_ok-size.size) in
-    let b = widens w c.self.view_is short c.free_pages-free.ensures c.if-free-wider.false c.widen_scrap.ensures in
-    (_, (first-at a b, own a))
+    let o = (goal.at.send_from-requires g c).After-widen_scrap in
+    (_, (first-at (saving g o) (widened g o), own (saving g o)))
 
 pub unwrap-load-requires : goal.unwrap-load-requires
 unwrap-load-requires g c =
-    let w = c.self.invariant in
-    let at = own-there w c.self.view_is c.requires.place c.index-seat.ensures in
-    let a = saves w c.self.view_is c.requires.place c.index-seat.ensures at c.args.a.now c.load_letter-letter.ensures c.in_ok-size.ensures c.if-is_some.ensures
-    c.in_ok-more.ensures in
-    let short : c.saturating_sub-wider.result ≡ scrap_shortage c.in_ok-size.size c.args.self.now.desk =
-    omega (arith, c.saturating_sub-wider.ensures, c.pages_for.ensures, c.len.ensures, seen-shortage w c.self.view_is c.in_ok-size.size) in
-    let b = widens w c.self.view_is short c.free_pages-free.ensures c.if-free-wider.false c.widen_scrap.ensures in
+    let o = (goal.at.unwrap-load-requires g c).After-widen_scrap in
     sends-ok c.load_letter-letter.result c.widen_scrap.new.self c.send_from.new.self c.send_from.result c.send_from.ensures
-    (first-sends a b (omega (arith, short, c.free_pages-free.ensures, seen-free w c.self.view_is, c.if-free-wider-2.false)))
+    (first-sends (saving g o) (widened g o)
+    (omega (arith, shortage g o, c.free_pages-free.ensures, seen-free c.self.invariant c.self.view_is, c.if-free-wider-2.false)))
 
 pub fill_scrap-requires-clause-place : goal.fill_scrap-requires-clause-place
 fill_scrap-requires-clause-place g c =
-    let w = c.self.invariant in
-    let at = own-there w c.self.view_is c.requires.place c.index-seat.ensures in
-    let a = saves w c.self.view_is c.requires.place c.index-seat.ensures at c.args.a.now c.load_letter-letter.ensures c.in_ok-size.ensures c.if-is_some.ensures
-    c.in_ok-more.ensures in
-    let short : c.saturating_sub-wider.result ≡ scrap_shortage c.in_ok-size.size c.args.self.now.desk =
-    omega (arith, c.saturating_sub-wider.ensures, c.pages_for.ensures, c.len.ensures, seen-shortage w c.self.view_is c.in_ok-size.size) in
-    let b = widens w c.self.view_is short c.free_pages-free.ensures c.if-free-wider.false c.widen_scrap.ensures in
+    let o = (goal.at.fill_scrap-requires-clause-place g c).After-widen_scrap in
     let sent = rw c.unwrap-load.ensures at c.send_from.ensures in
-    second-inside a b sent.1
+    second-inside (saving g o) (widened g o) sent.1
 
 pub fill_scrap-requires-clause-room : goal.fill_scrap-requires-clause-room
 fill_scrap-requires-clause-room g c =
-    let w = c.self.invariant in
-    let at = own-there w c.self.view_is c.requires.place c.index-seat.ensures in
-    let a = saves w c.self.view_is c.requires.place c.index-seat.ensures at c.args.a.now c.load_letter-letter.ensures c.in_ok-size.ensures c.if-is_some.ensures
-    c.in_ok-more.ensures in
-    let short : c.saturating_sub-wider.result ≡ scrap_shortage c.in_ok-size.size c.args.self.now.desk =
-    omega (arith, c.saturating_sub-wider.ensures, c.pages_for.ensures, c.len.ensures, seen-shortage w c.self.view_is c.in_ok-size.size) in
-    let b = widens w c.self.view_is short c.free_pages-free.ensures c.if-free-wider.false c.widen_scrap.ensures in
+    let o = (goal.at.fill_scrap-requires-clause-room g c).After-widen_scrap in
     let sent = rw c.unwrap-load.ensures at c.send_from.ensures in
-    second-room a b sent.1
+    second-room (saving g o) (widened g o) sent.1
 
 pub fill_scrap-requires-clause-block : goal.fill_scrap-requires-clause-block
 fill_scrap-requires-clause-block g c =
-    let w = c.self.invariant in
-    let at = own-there w c.self.view_is c.requires.place c.index-seat.ensures in
-    let a = saves w c.self.view_is c.requires.place c.index-seat.ensures at c.args.a.now c.load_letter-letter.ensures c.in_ok-size.ensures c.if-is_some.ensures
-    c.in_ok-more.ensures in
-    let short : c.saturating_sub-wider.result ≡ scrap_shortage c.in_ok-size.size c.args.self.now.desk =
-    omega (arith, c.saturating_sub-wider.ensures, c.pages_for.ensures, c.len.ensures, seen-shortage w c.self.view_is c.in_ok-size.size) in
-    let b = widens w c.self.view_is short c.free_pages-free.ensures c.if-free-wider.false c.widen_scrap.ensures in
+    let o = (goal.at.fill_scrap-requires-clause-block g c).After-widen_scrap in
     let sent = rw c.unwrap-load.ensures at c.send_from.ensures in
-    second-block a b sent.1
+    second-block (saving g o) (widened g o) sent.1
 
-pub record_saved-requires-clause-place : goal.record_saved-requires-clause-place
-record_saved-requires-clause-place g c =
-    let w = c.self.invariant in
-    let at = own-there w c.self.view_is c.requires.place c.index-seat.ensures in
-    let a = saves w c.self.view_is c.requires.place c.index-seat.ensures at c.args.a.now c.load_letter-letter.ensures c.in_ok-size.ensures c.if-is_some.ensures
-    c.in_ok-more.ensures in
-    let short : c.saturating_sub-wider.result ≡ scrap_shortage c.in_ok-size.size c.args.self.now.desk =
-    omega (arith, c.saturating_sub-wider.ensures, c.pages_for.ensures, c.len.ensures, seen-shortage w c.self.view_is c.in_ok-size.size) in
-    let b = widens w c.self.view_is short c.free_pages-free.ensures c.if-free-wider.false c.widen_scrap.ensures in
+pub edit_sending-requires-clause-place : goal.edit_sending-requires-clause-place
+edit_sending-requires-clause-place g c =
+    let o = (goal.at.edit_sending-requires-clause-place g c).After-widen_scrap in
     let sent = rw c.unwrap-load.ensures at c.send_from.ensures in
-    third-inside a b sent.1 c.unwrap-load.result c.fill_scrap.ensures
+    third-inside (saving g o) (widened g o) sent.1 c.unwrap-load.result c.fill_scrap.ensures
 
-pub record_saved-requires-clause-due : goal.record_saved-requires-clause-due
-record_saved-requires-clause-due g c =
-    let w = c.self.invariant in
-    let at = own-there w c.self.view_is c.requires.place c.index-seat.ensures in
-    let a = saves w c.self.view_is c.requires.place c.index-seat.ensures at c.args.a.now c.load_letter-letter.ensures c.in_ok-size.ensures c.if-is_some.ensures
-    c.in_ok-more.ensures in
-    let short : c.saturating_sub-wider.result ≡ scrap_shortage c.in_ok-size.size c.args.self.now.desk =
-    omega (arith, c.saturating_sub-wider.ensures, c.pages_for.ensures, c.len.ensures, seen-shortage w c.self.view_is c.in_ok-size.size) in
-    let b = widens w c.self.view_is short c.free_pages-free.ensures c.if-free-wider.false c.widen_scrap.ensures in
+pub edit_sending-requires-clause-taken : goal.edit_sending-requires-clause-taken
+edit_sending-requires-clause-taken g c =
+    let o = (goal.at.edit_sending-requires-clause-taken g c).After-widen_scrap in
     let sent = rw c.unwrap-load.ensures at c.send_from.ensures in
-    still-sends (saved-records a b sent.1 c.unwrap-load.result c.fill_scrap.ensures) c.args.i (send.SaveFile c.args.a.now) c.requires.due
+    let due =
+    still-sends (saved-records (saving g o) (widened g o) sent.1 c.unwrap-load.result c.fill_scrap.ensures) c.args.i (send.SaveFile c.args.a.now)
+    c.requires.due in
+    λ u there said new p. let is = due u there in search rules
 
 pub returns : goal.returns
 returns g c = λ t at.
     let w = c.self.invariant in
     let a = saves w c.self.view_is c.requires.place c.index-seat.ensures at c.args.a.now c.load_letter-letter.ensures c.in_ok-size.ensures c.if-is_some.ensures
     c.in_ok-more.ensures in
-    let short : c.saturating_sub-wider.result ≡ scrap_shortage c.in_ok-size.size c.args.self.now.desk =
-    omega (arith, c.saturating_sub-wider.ensures, c.pages_for.ensures, c.len.ensures, seen-shortage w c.self.view_is c.in_ok-size.size) in
-    let b = widens w c.self.view_is short c.free_pages-free.ensures c.if-free-wider.false c.widen_scrap.ensures in
+    let b = widened g (goal.at.returns g c).After-widen_scrap in
     let sent = rw c.unwrap-load.ensures at c.send_from.ensures in
-    save-all a b sent.1 c.unwrap-load.result c.fill_scrap.ensures sent.0 c.record_saved.ensures
+    save-all a b sent.1 c.unwrap-load.result c.fill_scrap.ensures sent.0
+    (λ u there. c.edit_sending.ensures u (sender.saved c.args.a.now c.unwrap-load.result) there (λ new p. search rules))

@@ -1,3 +1,4 @@
+use Rattle.std.proofs.Common.{rules}
 use Rattle.rh_tasks.proofs.Common.{refl, ap, sym, subst, arith, length, Shown, member-at, le-true}
 use Rattle.rh_defs.specs.declared.transfer_action.TakeAction.TheVariants as take
 use Rattle.rh_defs.specs.Receiver as receiver
@@ -6,25 +7,24 @@ use Rattle.rh_tasks.proofs.Dues.{still-takes}
 use Rattle.rh_tasks.proofs.Takings.{inside, stands-dropped, dropped-records, failed-as, handles-as, as-next, took-ended, took-more, took-failed}
 use Rattle.rh_tasks.proofs.world.World.took.Goals as goal
 
-pub record_finished-requires-clause-place : goal.record_finished-requires-clause-place
-record_finished-requires-clause-place g c =
+pub edit_taking-requires-clause-place : goal.edit_taking-requires-clause-place
+edit_taking-requires-clause-place g c =
     let t = member-at c.args.self.now.desk.tasks c.args.i c.requires.place in
     inside (stands-dropped c.args.self.now.desk c.drop_buffer.new.self.desk c.args.i t.0.handle c.args.a.now.transfer.buffer t.0
     (c.drop_buffer.ensures t.0 t.1) t.1)
 
-pub record_finished-requires-clause-due : goal.record_finished-requires-clause-due
-record_finished-requires-clause-due g c =
+pub edit_taking-requires-clause-taken : goal.edit_taking-requires-clause-taken
+edit_taking-requires-clause-taken g c =
     let t = member-at c.args.self.now.desk.tasks c.args.i c.requires.place in
-    still-takes (dropped-records t.0.handle c.args.a.now.transfer.buffer (c.drop_buffer.ensures t.0 t.1)) c.args.i (take.Append c.args.a.now) c.requires.due
-
-pub record_finished-requires-clause-next : goal.record_finished-requires-clause-next
-record_finished-requires-clause-next g c = rw c.in-Finish.is refl
+    let due =
+    still-takes (dropped-records t.0.handle c.args.a.now.transfer.buffer (c.drop_buffer.ensures t.0 t.1)) c.args.i (take.Append c.args.a.now) c.requires.due in
+    λ u there said new p. let is = due u there in search rules
 
 pub returns-in-Finish : goal.returns-in-Finish
 returns-in-Finish g c t at =
-    as-next c.args.self.now.desk t c.args.a.now c.record_finished.new.self c.in-Finish.is
-    (took-ended c.args.self.now.desk c.drop_buffer.new.self.desk c.record_finished.new.self c.args.i t c.args.a.now at (c.drop_buffer.ensures t at)
-    c.record_finished.ensures)
+    as-next c.args.self.now.desk t c.args.a.now c.edit_taking.new.self c.in-Finish.is
+    (took-ended c.args.self.now.desk c.drop_buffer.new.self.desk c.edit_taking.new.self c.args.i t c.args.a.now at (c.drop_buffer.ensures t at)
+    (λ u there. c.edit_taking.ensures u (receiver.finished c.args.a.now) there (λ new p. search rules)))
 
 pub end_failed-requires-clause-place : goal.end_failed-requires-clause-place
 end_failed-requires-clause-place g c =

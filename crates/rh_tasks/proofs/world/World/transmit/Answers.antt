@@ -1,3 +1,4 @@
+use Rattle.std.proofs.Common.{rules}
 use Rattle.rh_tasks.proofs.Common.{◌≡◌, refl, sym, ap, ◌∙◌, arith, None, err_from_is_err_and, slice_get_within, Letter, Task, task_at}
 use Rattle.rh_tasks.proofs.Common.{ℕ, List, Outgoing, Incoming, with_sending, send_letter, task_of, member-at, mapped-at}
 use Rattle.rh_defs.specs.Letters.{transmit_letter}
@@ -106,8 +107,8 @@ write_portion-requires-clause-reach g c =
 pub write_portion-requires-clause-room : goal.write_portion-requires-clause-room
 write_portion-requires-clause-room g c = c.in_ok-portion.ensures.most
 
-pub record_sent-requires-clause-place : goal.record_sent-requires-clause-place
-record_sent-requires-clause-place g c =
+pub edit_sending-requires-clause-place : goal.edit_sending-requires-clause-place
+edit_sending-requires-clause-place g c =
     let d = c.args.self.now.desk in
     let e = c.in_ok-transmit.ensures in
     let k = sent-pairs c.transmit_letter-letter.result d e.1.0 c.send_from.new.self.desk e.1.1.0 e.1.1.1 in
@@ -122,8 +123,8 @@ record_sent-requires-clause-place g c =
       c.requires.place,
     )
 
-pub record_sent-requires-clause-due : goal.record_sent-requires-clause-due
-record_sent-requires-clause-due g c =
+pub edit_sending-requires-clause-taken : goal.edit_sending-requires-clause-taken
+edit_sending-requires-clause-taken g c =
     let d = c.args.self.now.desk in
     let e = c.in_ok-transmit.ensures in
     let k = sent-pairs c.transmit_letter-letter.result d e.1.0 c.send_from.new.self.desk e.1.1.0 e.1.1.1 in
@@ -131,8 +132,10 @@ record_sent-requires-clause-due g c =
     let t = member-at d.tasks c.args.i c.requires.place in
     let r : Meant d c.in-Some.seat c.args.a.now.transfer.recipient =
     rw (← c.self.view_is) (somebody-with c.self.invariant c.args.a.now.transfer.recipient c.in-Some.seat (sym c.in-Some.ensures)) in
+    let due =
     still-sends (wrote-records k c.args.i c.in-Some.seat t.1 r.at (c.in_ok-portion.ensures.ok t.0 t.1) c.args.a.now.buffer c.args.a.now.room
-    c.write_portion.ensures sent) c.args.i (send.Transmit c.args.a.now) c.requires.due
+    c.write_portion.ensures sent) c.args.i (send.Transmit c.args.a.now) c.requires.due in
+    λ u there said new p. let is = due u there in search rules
 
 pub returns : goal.returns
 unfolding task_of
@@ -156,7 +159,7 @@ returns g c =
     let after = seen records_of wrote c.args.i t at in
     let last = c.in_ok-transmit.transmit in
     let edit : List Outgoing → List Outgoing = sender.sent c.args.a.now (sender.next_part c.args.a.now c.in_ok-portion.portion.size) last in
-    let recorded = c.record_sent.ensures after.task after.at
+    let recorded = c.edit_sending.ensures after.task edit after.at (λ new p. search rules)
     ∙ ap (λ (r : ℕ × List Outgoing × List Incoming). with_sending r.0 edit c.write_portion.new.self.desk) after.alike in
     transmit-whole d t c.args.a.now p r.task r.found near e.0 (ap (λ l. send_letter l d) (sym letter) ∙ e.1.1.0) e.1.1.1
     (wrote-is k c.args.i c.in-Some.seat at r.at p c.args.a.now.buffer c.args.a.now.room c.write_portion.ensures) recorded
