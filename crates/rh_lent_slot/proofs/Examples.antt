@@ -10,7 +10,7 @@ use Rattle.rh_defs.specs.Inner.Computing.{computing_chain, computing_slot}
 use Rattle.rh_defs.proofs.SlotRows.{Alloc, Put, Claim, slot_after, hello}
 
 -- three pages and 100 bytes, of which a slot has one page
-pub two_free : (b : List ℕ) → length b ≡ 12388 → free_in b (record { pages = 1; budge = true }) ≡ 2
+pub two_free : (b : List ℕ) → length b ≡ 12388 → free_in b (record { pages = 1; budge = true; slides = 0 }) ≡ 2
 two_free b e = rw e refl
 
 pub three_pages : (b : List ℕ) → length b ≡ 12388 → (lent_memory_in b 1 7).pages ≡ 3

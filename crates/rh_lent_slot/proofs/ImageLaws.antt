@@ -15,9 +15,9 @@ module _ (b : List ℕ) (s : LentSlot) where
   short_from few within image =
       let most = image.most in
       let long = length-take-le (PAGE * s.pages) b within in
-      let slot : IsSlotBytes b (record { pages = s.pages; budge = true }) =
+      let slot : IsSlotBytes b (record { pages = s.pages; budge = true; slides = s.slides }) =
       record { few = few; within = within; spells = image.spells } in
-      record { most = omega arith; slot = budged b (record { pages = s.pages; budge = true }) s.budge slot }
+      record { most = omega arith; slot = budged b (record { pages = s.pages; budge = true; slides = s.slides }) s.budge slot }
 
   -- and the other way round
   pub short_back : IsShortSlot b s → IsSlotImage (lent_slot_bytes b s) (slot_of true (lent_slot_bytes b s))

@@ -1,6 +1,7 @@
 pub mod Common
 pub mod Examples
 pub mod ImageLaws
+pub mod NotedLaws
 pub mod Over
 pub mod SlideCalls
 pub mod SlideLaws

@@ -1,6 +1,6 @@
 -- What each call that may move blocks leaves of their anchor words.
 use Rattle.rh_lent_slot.proofs.Common.{◌≡◌, ℕ, ◌+◌, ◌*◌, ◌<◌, ◌≤◌, ◌==◌, Bool, true, false, List, [], ◌∷◌, ◌++◌, length, refl, sym, ap, subst, ◌∙◌}
-use Rattle.rh_lent_slot.proofs.Common.{arith, length-take-le, Option, Some, None, Ok, Err, OnErr, ℤ, no_answer, PAGE}
+use Rattle.rh_lent_slot.proofs.Common.{arith, Option, Some, None, Ok, Err, OnErr, ℤ, no_answer}
 use Rattle.rh_lent_slot.proofs.Common.{lent_slot_bytes, lent_slot_in, IsSlotBytes, LeavesSlot}
 use Rattle.std.proofs.Common.{◌≢◌}
 use Rattle.std.specs.Prelude.{IfSome}
@@ -13,7 +13,6 @@ use Rattle.rh_defs.specs.Slot.{slot_block, slot_free, slot_extend, slot_mid, slo
 use Rattle.rh_defs.specs.SlotImage.{SlotWords, flex_place}
 use Rattle.rh_defs.specs.declared.refusal.Refusal.{Refusal}
 use Rattle.rh_defs.specs.declared.refusal.Refusal.TheVariants.{NoBlock}
-use Rattle.rh_defs.proofs.BytesLaws.{word-take}
 use Rattle.rh_defs.proofs.HeapLists.{cond_true, eqb_same, IsCut, first_at-cuts}
 use Rattle.rh_defs.proofs.SlotLaws.{Hang-split, HaveAnchors-cut}
 use Rattle.rh_defs.specs.SlotImage.{Hang}
@@ -98,50 +97,44 @@ Tells b c g =
     (g.anchor < anchor_count) × (word b (4 * g.anchor) ≢ 0) × (word c (4 * g.anchor) ≢ 0)
     × (word b (4 * g.anchor) ≡ word c (4 * g.anchor) → AllRest b c)
 
--- bytes b spelled a slot s, c spell t, and d begin with c
-module _ (b c d : List ℕ) (s t : Slot) (w : SlotWords b s) (x : SlotWords c t)
-    (front : (at : ℕ) → at + 4 ≤ 256 → word d at ≡ word c at) (n : ℕ) (noted : Option NotedWord) where
+-- bytes b spelled a slot s, and c spell t
+module _ (b c : List ℕ) (s t : Slot) (w : SlotWords b s) (x : SlotWords c t) (n : ℕ) (noted : Option NotedWord) where
   -- a refused call leaves all
-  pub counts_same : (bl : List Flex) → HaveAnchors bl → NotesFirst b bl noted → c ≡ b → slides_noted n noted d ≡ slides_after n b c
+  pub counts_same : (bl : List Flex) → HaveAnchors bl → NotesFirst b bl noted → c ≡ b → slides_noted n noted c ≡ slides_after n b c
   counts_same bl small notes e = go bl noted small notes
     where
       rest : AllRest b c
       rest k l = rests_same (ap (λ (i : List ℕ). word i (4 * k)) (sym e))
 
-      go : (bl : List Flex) (noted : Option NotedWord) → HaveAnchors bl → NotesFirst b bl noted → slides_noted n noted d ≡ slides_after n b c
+      go : (bl : List Flex) (noted : Option NotedWord) → HaveAnchors bl → NotesFirst b bl noted → slides_noted n noted c ≡ slides_after n b c
       go [] None small notes = counts_none n b c rest
       go [] (Some note) small notes = absurd notes
       go (g ∷ gs) None small notes = absurd notes
       go (g ∷ gs) (Some note) small notes =
-          let l = small.0 in
-          let at = notes.0 in
-          cond_true (word d note.at == note.word) _ _
-          (eqb_same _ _ (front note.at (omega arith) ∙ ap (λ (i : List ℕ). word i note.at) e ∙ sym notes.1))
+          cond_true (word c note.at == note.word) _ _ (eqb_same _ _ (ap (λ (i : List ℕ). word i note.at) e ∙ sym notes.1))
           ∙ counts_none n b c rest
 
   -- the blocks from one on stand elsewhere, or all rest
   counts_from : (ys : List Flex) → NotesFirst b ys noted → (ys ≡ [] → AllRest b c)
       → ((g : Flex) (zs : List Flex) → ys ≡ g ∷ zs
       → Tells b c g)
-      → slides_noted n noted d ≡ slides_after n b c
+      → slides_noted n noted c ≡ slides_after n b c
   counts_from ys notes none some = go ys noted notes none some
     where
       go : (ys : List Flex) (noted : Option NotedWord) → NotesFirst b ys noted → (ys ≡ [] → AllRest b c)
           → ((g : Flex) (zs : List Flex) → ys ≡ g ∷ zs
           → Tells b c g)
-          → slides_noted n noted d ≡ slides_after n b c
+          → slides_noted n noted c ≡ slides_after n b c
       go [] None notes none some = counts_none n b c (none refl)
       go [] (Some note) notes none some = absurd notes
       go (g ∷ gs) None notes none some = absurd notes
       go (g ∷ gs) (Some note) notes none some =
           let h = some g gs refl in
-          let l = h.0 in
-          let at = notes.0 in
-          counts_noted n b c d g.anchor note notes.0 notes.1 (front note.at (omega arith)) h.0 h.1 h.2 h.3
+          counts_noted n b c g.anchor note notes.0 notes.1 h.0 h.1 h.2 h.3
 
   -- a call on the anchor's block
   pub counts_above : (k : ℕ) (granted : Granted (Slot × Unit {0})) → Alters k s granted → t ≡ left_of s granted
-      → ((r : Refusal) → granted ≡ Err r → c ≡ b) → NotesFirst b (blocks_above k s) noted → slides_noted n noted d ≡ slides_after n b c
+      → ((r : Refusal) → granted ≡ Err r → c ≡ b) → NotesFirst b (blocks_above k s) noted → slides_noted n noted c ≡ slides_after n b c
   counts_above k granted (refuses r) left same notes = counts_same (blocks_above k s) (small (block_of k s) refl) notes (same r refl)
     where
       small : (o : Option (Split Flex)) → block_of k s ≡ o → HaveAnchors (behind_cut o)
@@ -186,7 +179,7 @@ module _ (b c d : List ℕ) (s t : Slot) (w : SlotWords b s) (x : SlotWords c t)
 
   -- a call on the C heap
   pub counts_lowest : (granted : Granted (Slot × ℕ)) → Heaps s granted → t ≡ left_of s granted → ((r : Refusal) → granted ≡ Err r → c ≡ b)
-      → NotesFirst b s.blocks noted → slides_noted n noted d ≡ slides_after n b c
+      → NotesFirst b s.blocks noted → slides_noted n noted c ≡ slides_after n b c
   counts_lowest granted (refuses_heap r) left same notes = counts_same s.blocks w.anchors notes (same r refl)
   counts_lowest granted (holds_heap h a) left same notes =
       let now : s.blocks ≡ t.blocks = ap (λ (r : Slot). r.blocks) (sym left) in
@@ -207,14 +200,6 @@ module _ (b c d : List ℕ) (s t : Slot) (w : SlotWords b s) (x : SlotWords c t)
 
 -- ---- calls on slots in lent bytes
 
--- the first words of the bytes are those of the slot's pages
-front_of : (c : List ℕ) (t : LentSlot) → IsSlotBytes c t → (at : ℕ) → at + 4 ≤ 256 → word c at ≡ word (lent_slot_bytes c t) at
-front_of c t h at l =
-    let fits = h.spells.words.within in
-    let within = h.within in
-    let long = length-take-le (PAGE * t.pages) c h.within in
-    sym (word-take (PAGE * t.pages) c at (omega arith))
-
 -- a refused call leaves the bytes of the slot's pages
 stays_of : {A : Type 0} (b c : List ℕ) (s t : LentSlot) (granted : Granted (Slot × A)) (result : Granted A) → LeavesSlot b c s t granted result
     → (r : Refusal) → granted ≡ Err r → lent_slot_bytes c t ≡ lent_slot_bytes b s
@@ -228,24 +213,20 @@ stays_of {A} b c s t granted result left r e = go result (left.answer ∙ ap ans
 module _ (b c : List ℕ) (s t : LentSlot) (noted : Option NotedWord) (h : IsSlotBytes b s) where
   pub counted_above : (k : ℕ) (granted : Granted (Slot × Unit {0})) (result : Granted (Unit {0})) → Alters k (lent_slot_in b s) granted
       → LeavesSlot b c s t granted result → NotesFirst (lent_slot_bytes b s) (blocks_above k (lent_slot_in b s)) noted
-      → slides_noted s.slides noted c ≡ slides_after s.slides (lent_slot_bytes b s) (lent_slot_bytes c t)
+      → slides_noted s.slides noted (lent_slot_bytes c t) ≡ slides_after s.slides (lent_slot_bytes b s) (lent_slot_bytes c t)
   counted_above k granted result is left notes =
-      counts_above (lent_slot_bytes b s) (lent_slot_bytes c t) c (lent_slot_in b s) (lent_slot_in c t) h.spells.words left.bytes.spells.words
-      (front_of c t left.bytes) s.slides noted k granted is left.slot (stays_of b c s t granted result left) notes
+      counts_above (lent_slot_bytes b s) (lent_slot_bytes c t) (lent_slot_in b s) (lent_slot_in c t) h.spells.words left.bytes.spells.words
+      s.slides noted k granted is left.slot (stays_of b c s t granted result left) notes
 
   pub counted_lowest : (granted : Granted (Slot × ℕ)) (result : Granted ℕ) → Heaps (lent_slot_in b s) granted
       → LeavesSlot b c s t granted result → NotesFirst (lent_slot_bytes b s) (lent_slot_in b s).blocks noted
-      → slides_noted s.slides noted c ≡ slides_after s.slides (lent_slot_bytes b s) (lent_slot_bytes c t)
+      → slides_noted s.slides noted (lent_slot_bytes c t) ≡ slides_after s.slides (lent_slot_bytes b s) (lent_slot_bytes c t)
   counted_lowest granted result is left notes =
-      counts_lowest (lent_slot_bytes b s) (lent_slot_bytes c t) c (lent_slot_in b s) (lent_slot_in c t) h.spells.words left.bytes.spells.words
-      (front_of c t left.bytes) s.slides noted granted is left.slot (stays_of b c s t granted result left) notes
+      counts_lowest (lent_slot_bytes b s) (lent_slot_bytes c t) (lent_slot_in b s) (lent_slot_in c t) h.spells.words left.bytes.spells.words
+      s.slides noted granted is left.slot (stays_of b c s t granted result left) notes
 
--- an anchor word lies in the bytes of every slot
+-- an anchor word lies in the pages of every slot
 pub noted_in : (c : List ℕ) (t : LentSlot) (noted : Option NotedWord) → IsSlotBytes c t → IfSome noted (λ n. n.at + 4 ≤ 256)
-    → IfSome noted (λ n. n.at + 4 ≤ length c)
+    → IfSome noted (λ n. n.at + 4 ≤ length (lent_slot_bytes c t))
 noted_in c t None h l = tt
-noted_in c t (Some note) h l =
-    let fits = h.spells.words.within in
-    let within = h.within in
-    let long = length-take-le (PAGE * t.pages) c h.within in
-    omega arith
+noted_in c t (Some note) h l = let fits = h.spells.words.within in omega arith

@@ -69,15 +69,15 @@ unfolding slides_after
 counts_one n b c k l x y d = sym (cond_true (any_slid 64 b c) _ _ (one_slid 64 b c k l (a_slide _ _ x y d)))
 
 -- the word that was noted tells: it is the same just where every block rests
-pub counts_noted : (n : ℕ) (b c d : List ℕ) (k : ℕ) (noted : NotedWord) → noted.at ≡ 4 * k → noted.word ≡ word b noted.at → word d noted.at ≡ word c noted.at
+pub counts_noted : (n : ℕ) (b c : List ℕ) (k : ℕ) (noted : NotedWord) → noted.at ≡ 4 * k → noted.word ≡ word b noted.at
     → k < anchor_count → word b (4 * k) ≢ 0 → word c (4 * k) ≢ 0 → (word b (4 * k) ≡ word c (4 * k) → AllRest b c)
-    → slides_noted n (Some noted) d ≡ slides_after n b c
-counts_noted n b c d k noted at was now l x y rest =
+    → slides_noted n (Some noted) c ≡ slides_after n b c
+counts_noted n b c k noted at was l x y rest =
     let before : noted.word ≡ word b (4 * k) = was ∙ ap (word b) at in
-    let after : word d noted.at ≡ word c (4 * k) = now ∙ ap (word c) at in
+    let after : word c noted.at ≡ word c (4 * k) = ap (word c) at in
     elim (cases_eq (word b (4 * k)) (word c (4 * k))) [
-      | inl e ↦ cond_true (word d noted.at == noted.word) _ _ (eqb_same _ _ (after ∙ sym e ∙ sym before)) ∙ counts_none n b c (rest e)
-      | inr ne ↦ cond_false (word d noted.at == noted.word) _ _ (eqb_apart _ _ (λ e. ne (sym before ∙ sym e ∙ after))) ∙ counts_one n b c k l x y ne
+      | inl e ↦ cond_true (word c noted.at == noted.word) _ _ (eqb_same _ _ (after ∙ sym e ∙ sym before)) ∙ counts_none n b c (rest e)
+      | inr ne ↦ cond_false (word c noted.at == noted.word) _ _ (eqb_apart _ _ (λ e. ne (sym before ∙ sym e ∙ after))) ∙ counts_one n b c k l x y ne
     ]
 
 -- ---- rows of blocks

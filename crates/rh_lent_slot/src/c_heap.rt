@@ -36,7 +36,7 @@ impl LentSlot {
         let slot = Slot { area: LENT, budge };
         let result = slot.claim(&mut store, n);
         self.pages = store.pages;
-        self.slides = slides_noted(self.slides, noted, store.bytes);
+        self.slides = slides_noted(self.slides, noted, &store);
         result
     }
 
@@ -70,7 +70,7 @@ impl LentSlot {
         let slot = Slot { area: LENT, budge };
         let result = slot.resize(&mut store, address, delta);
         self.pages = store.pages;
-        self.slides = slides_noted(self.slides, noted, store.bytes);
+        self.slides = slides_noted(self.slides, noted, &store);
         result
     }
 

@@ -84,7 +84,7 @@ impl LentSlot {
         let slot = Slot { area: LENT, budge };
         let result = slot.free(&mut store, anchor);
         self.pages = store.pages;
-        self.slides = slides_noted(self.slides, noted, store.bytes);
+        self.slides = slides_noted(self.slides, noted, &store);
         result
     }
 
@@ -103,7 +103,7 @@ impl LentSlot {
         let slot = Slot { area: LENT, budge };
         let result = slot.extend(&mut store, anchor, n);
         self.pages = store.pages;
-        self.slides = slides_noted(self.slides, noted, store.bytes);
+        self.slides = slides_noted(self.slides, noted, &store);
         result
     }
 
@@ -130,7 +130,7 @@ impl LentSlot {
         let slot = Slot { area: LENT, budge };
         let result = slot.mid(&mut store, anchor, offset, by);
         self.pages = store.pages;
-        self.slides = slides_noted(self.slides, noted, store.bytes);
+        self.slides = slides_noted(self.slides, noted, &store);
         result
     }
 

@@ -1,6 +1,7 @@
 //! How often blocks of a slot in lent bytes have slid. Before a call the anchor word of the lowest block that it may
 //! move is noted, and compared behind it: the blocks above slide with that one.
 ghost use Rattle.std.specs.Prelude.{◌≡◌, ◌+◌, ◌%◌, ◌<◌, ◌≤◌, length, IfSome, MatchOption, false};
+ghost use Rattle.rh_defs.specs.Memory.{IsOpen, bytes};
 ghost use Rattle.rh_defs.specs.SlotImage.{is_block};
 ghost use Rattle.rh_defs.specs.declared.sizes.TheConstants.{ANCHORS, C_HEAP_PLACE, WORD};
 ghost use Rattle.rh_lent_slot.specs.Slots.{IsSlotBytes, lent_slot_bytes, lent_slot_in};
@@ -11,6 +12,8 @@ use rh_defs::Anchor;
 use rh_defs::sizes::{
     C_HEAP_PLACE, C_HEAP_START, FLEX_HEADER, HEAP_END, PAGE, SLOT_START, WORD, flex_weight,
 };
+use rh_lent_heap::LENT;
+use rh_store::Words;
 use rh_store::bytes::word_in;
 
 /// An anchor word that leads to a block: where it stands, and what it held before a call.
@@ -76,12 +79,13 @@ impl LentSlot {
 }
 
 /// The count of slides behind a call: one more where the word that was noted has changed.
-pub(crate) fn slides_noted(slides: u32, noted: Option<NotedWord>, bytes: &[u8]) -> u32
-    requires { IfSome noted (λ n. n.at + WORD ≤ length bytes.now) }
-    ensures { result ≡ slides_noted slides noted bytes.now }
+pub(crate) fn slides_noted<S: Words>(slides: u32, noted: Option<NotedWord>, store: &S) -> u32
+    requires opened { IsOpen (S.memory store.now) 0 }
+    requires within { IfSome noted (λ n. n.at + WORD ≤ length (bytes (S.memory store.now) 0)) }
+    ensures { result ≡ slides_noted slides noted (bytes (S.memory store.now) 0) }
 {
     match noted {
-        Some(noted) if word_in(bytes, noted.at) != noted.word => slides.wrapping_add(1),
+        Some(noted) if store.word(LENT, noted.at) != noted.word => slides.wrapping_add(1),
         _ => slides,
     }
 }

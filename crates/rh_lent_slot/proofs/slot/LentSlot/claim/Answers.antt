@@ -1,6 +1,10 @@
-use Rattle.rh_lent_slot.proofs.Common.{rules, ◌∙◌, area_set, bytes, lent_pages_memory, pages_memory_over, LeavesSlot, free_in, lent_slot_in}
+use Rattle.rh_lent_slot.proofs.Common.{rules, ◌≡◌, ◌∙◌, lent_slot_bytes, area_set}
+use Rattle.rh_lent_slot.proofs.Common.{bytes, lent_pages_memory, pages_memory_over, LeavesSlot, free_in, lent_slot_in}
 use Rattle.rh_defs.specs.Slot.{slot_claim}
 use Rattle.rh_lent_slot.proofs.SlotBytes.{is_slot, leaves_slot}
+use Rattle.rh_lent_slot.specs.SlotSlides.{slides_after}
+use Rattle.rh_lent_slot.specs.declared.slot.LentSlot.{LentSlot}
+use Rattle.rh_lent_slot.proofs.Over.{over-open}
 use Rattle.rh_lent_slot.proofs.SlideCalls.{noted_in, counted_lowest, heaps-claim}
 use Rattle.rh_lent_slot.proofs.slot.LentSlot.claim.Goals as goal
 
@@ -16,13 +20,18 @@ returns-clause-left c =
     let store = c.claim-result.new.store in
     let granted = slot_claim (free_in b s) c.args.n (lent_slot_in b s) in
     let name = c.claim-result.ensures.only.loan in
-    let left : LeavesSlot b store.bytes.now s (record { pages = store.pages; budge = s.budge; slides = c.slides_noted.result }) granted c.claim-result.result =
+    let left : LeavesSlot b store.bytes.now s (record { pages = store.pages; budge = s.budge; slides = c.slides_noted-self.result })
+    granted c.claim-result.result =
     leaves_slot b s _ store _ granted c.claim-result.result c.requires c.claim-result.ensures in
     search rules
 
-pub slides_noted-requires : goal.slides_noted-requires
+pub slides_noted-self-requires-clause-opened : goal.slides_noted-self-requires-clause-opened
+unfolding lent_pages_memory
+slides_noted-self-requires-clause-opened c = over-open _ _ _ _
+
+pub slides_noted-self-requires-clause-within : goal.slides_noted-self-requires-clause-within
 unfolding lent_pages_memory pages_memory_over bytes area_set
-slides_noted-requires c =
+slides_noted-self-requires-clause-within c =
     let b = c.args.bytes.now in
     let s = c.args.self.now in
     let store = c.claim-result.new.store in
@@ -40,8 +49,12 @@ returns-clause-slides c =
     let store = c.claim-result.new.store in
     let granted = slot_claim (free_in b s) c.args.n (lent_slot_in b s) in
     let name = c.claim-result.ensures.only.loan in
-    let left : LeavesSlot b store.bytes.now s (record { pages = store.pages; budge = s.budge; slides = c.slides_noted.result }) granted c.claim-result.result =
+    let left : LeavesSlot b store.bytes.now s (record { pages = store.pages; budge = s.budge; slides = c.slides_noted-self.result })
+    granted c.claim-result.result =
     leaves_slot b s _ store _ granted c.claim-result.result c.requires c.claim-result.ensures in
-    c.slides_noted.ensures
-    ∙ counted_lowest b store.bytes.now s _ c.note_lowest-noted.result
-    c.requires granted c.claim-result.result (heaps-claim _ _ _) left c.note_lowest-noted.ensures.first
+    let t : LentSlot = record { pages = store.pages; budge = s.budge; slides = c.slides_noted-self.result } in
+    let counts : t.slides ≡ slides_after s.slides (lent_slot_bytes b s) (lent_slot_bytes store.bytes.now t) =
+    c.slides_noted-self.ensures
+    ∙ counted_lowest b store.bytes.now s t c.note_lowest-noted.result c.requires granted c.claim-result.result
+    (heaps-claim _ _ _) left c.note_lowest-noted.ensures.first in
+    search rules

@@ -1,6 +1,10 @@
-use Rattle.rh_lent_slot.proofs.Common.{rules, ◌∙◌, no_answer, area_set, bytes, lent_pages_memory, pages_memory_over, LeavesSlot, lent_slot_in}
+use Rattle.rh_lent_slot.proofs.Common.{rules, ◌≡◌, ◌∙◌, lent_slot_bytes, no_answer}
+use Rattle.rh_lent_slot.proofs.Common.{area_set, bytes, lent_pages_memory, pages_memory_over, LeavesSlot, lent_slot_in}
 use Rattle.rh_defs.specs.Slot.{slot_free}
 use Rattle.rh_lent_slot.proofs.SlotBytes.{is_slot, leaves_slot}
+use Rattle.rh_lent_slot.specs.SlotSlides.{slides_after}
+use Rattle.rh_lent_slot.specs.declared.slot.LentSlot.{LentSlot}
+use Rattle.rh_lent_slot.proofs.Over.{over-open}
 use Rattle.rh_lent_slot.proofs.SlideCalls.{noted_in, counted_above, alters-free}
 use Rattle.rh_lent_slot.proofs.slot.LentSlot.free.Goals as goal
 
@@ -16,13 +20,18 @@ returns-clause-left c =
     let store = c.free-result.new.store in
     let granted = no_answer (slot_free c.args.anchor (lent_slot_in b s)) in
     let name = c.free-result.ensures.only.loan in
-    let left : LeavesSlot b store.bytes.now s (record { pages = store.pages; budge = s.budge; slides = c.slides_noted.result }) granted c.free-result.result =
+    let left : LeavesSlot b store.bytes.now s (record { pages = store.pages; budge = s.budge; slides = c.slides_noted-self.result })
+    granted c.free-result.result =
     leaves_slot b s _ store _ granted c.free-result.result c.requires.slot c.free-result.ensures in
     search rules
 
-pub slides_noted-requires : goal.slides_noted-requires
+pub slides_noted-self-requires-clause-opened : goal.slides_noted-self-requires-clause-opened
+unfolding lent_pages_memory
+slides_noted-self-requires-clause-opened c = over-open _ _ _ _
+
+pub slides_noted-self-requires-clause-within : goal.slides_noted-self-requires-clause-within
 unfolding lent_pages_memory pages_memory_over bytes area_set
-slides_noted-requires c =
+slides_noted-self-requires-clause-within c =
     let b = c.args.bytes.now in
     let s = c.args.self.now in
     let store = c.free-result.new.store in
@@ -40,8 +49,12 @@ returns-clause-slides c =
     let store = c.free-result.new.store in
     let granted = no_answer (slot_free c.args.anchor (lent_slot_in b s)) in
     let name = c.free-result.ensures.only.loan in
-    let left : LeavesSlot b store.bytes.now s (record { pages = store.pages; budge = s.budge; slides = c.slides_noted.result }) granted c.free-result.result =
+    let left : LeavesSlot b store.bytes.now s (record { pages = store.pages; budge = s.budge; slides = c.slides_noted-self.result })
+    granted c.free-result.result =
     leaves_slot b s _ store _ granted c.free-result.result c.requires.slot c.free-result.ensures in
-    c.slides_noted.ensures
-    ∙ counted_above b store.bytes.now s _ c.note_above-noted.result
-    c.requires.slot c.args.anchor granted c.free-result.result (alters-free _ _) left c.note_above-noted.ensures.first
+    let t : LentSlot = record { pages = store.pages; budge = s.budge; slides = c.slides_noted-self.result } in
+    let counts : t.slides ≡ slides_after s.slides (lent_slot_bytes b s) (lent_slot_bytes store.bytes.now t) =
+    c.slides_noted-self.ensures
+    ∙ counted_above b store.bytes.now s t c.note_above-noted.result c.requires.slot c.args.anchor granted c.free-result.result
+    (alters-free _ _) left c.note_above-noted.ensures.first in
+    search rules

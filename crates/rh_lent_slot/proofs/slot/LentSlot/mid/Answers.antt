@@ -1,7 +1,11 @@
-use Rattle.rh_lent_slot.proofs.Common.{rules, ◌∙◌, ℤ, w32, no_answer, area_set, bytes, lent_pages_memory, pages_memory_over, LeavesSlot, free_in, lent_slot_in}
+use Rattle.rh_lent_slot.proofs.Common.{rules, ◌≡◌, ◌∙◌, lent_slot_bytes, ℤ, w32, no_answer}
+use Rattle.rh_lent_slot.proofs.Common.{area_set, bytes, lent_pages_memory, pages_memory_over, LeavesSlot, free_in, lent_slot_in}
 use Rattle.std.proofs.lemmas.Int.{to_z-of_z}
 use Rattle.rh_defs.specs.Slot.{slot_mid}
 use Rattle.rh_lent_slot.proofs.SlotBytes.{is_slot, leaves_signed}
+use Rattle.rh_lent_slot.specs.SlotSlides.{slides_after}
+use Rattle.rh_lent_slot.specs.declared.slot.LentSlot.{LentSlot}
+use Rattle.rh_lent_slot.proofs.Over.{over-open}
 use Rattle.rh_lent_slot.proofs.SlideCalls.{noted_in, counted_above, alters-mid}
 use Rattle.rh_lent_slot.proofs.slot.LentSlot.mid.Goals as goal
 
@@ -17,14 +21,18 @@ returns-clause-left c =
     let store = c.mid-result.new.store in
     let granted = λ (d : ℤ). no_answer (slot_mid (free_in b s) c.args.anchor c.args.offset d (lent_slot_in b s)) in
     let name = c.mid-result.ensures.only.loan in
-    let left : LeavesSlot b store.bytes.now s (record { pages = store.pages; budge = s.budge; slides = c.slides_noted.result })
+    let left : LeavesSlot b store.bytes.now s (record { pages = store.pages; budge = s.budge; slides = c.slides_noted-self.result })
     (granted c.args.by) c.mid-result.result =
     leaves_signed b s _ store _ granted c.mid-result.result _ _ (to_z-of_z w32 c.args.by c.ranges.by) c.requires.slot c.mid-result.ensures in
     search rules
 
-pub slides_noted-requires : goal.slides_noted-requires
+pub slides_noted-self-requires-clause-opened : goal.slides_noted-self-requires-clause-opened
+unfolding lent_pages_memory
+slides_noted-self-requires-clause-opened c = over-open _ _ _ _
+
+pub slides_noted-self-requires-clause-within : goal.slides_noted-self-requires-clause-within
 unfolding lent_pages_memory pages_memory_over bytes area_set
-slides_noted-requires c =
+slides_noted-self-requires-clause-within c =
     let b = c.args.bytes.now in
     let s = c.args.self.now in
     let store = c.mid-result.new.store in
@@ -42,9 +50,12 @@ returns-clause-slides c =
     let store = c.mid-result.new.store in
     let granted = λ (d : ℤ). no_answer (slot_mid (free_in b s) c.args.anchor c.args.offset d (lent_slot_in b s)) in
     let name = c.mid-result.ensures.only.loan in
-    let left : LeavesSlot b store.bytes.now s (record { pages = store.pages; budge = s.budge; slides = c.slides_noted.result })
+    let left : LeavesSlot b store.bytes.now s (record { pages = store.pages; budge = s.budge; slides = c.slides_noted-self.result })
     (granted c.args.by) c.mid-result.result =
     leaves_signed b s _ store _ granted c.mid-result.result _ _ (to_z-of_z w32 c.args.by c.ranges.by) c.requires.slot c.mid-result.ensures in
-    c.slides_noted.ensures
-    ∙ counted_above b store.bytes.now s _ c.note_above-noted.result
-    c.requires.slot c.args.anchor (granted c.args.by) c.mid-result.result (alters-mid _ _ _ _ _) left c.note_above-noted.ensures.first
+    let t : LentSlot = record { pages = store.pages; budge = s.budge; slides = c.slides_noted-self.result } in
+    let counts : t.slides ≡ slides_after s.slides (lent_slot_bytes b s) (lent_slot_bytes store.bytes.now t) =
+    c.slides_noted-self.ensures
+    ∙ counted_above b store.bytes.now s t c.note_above-noted.result c.requires.slot c.args.anchor (granted c.args.by) c.mid-result.result
+    (alters-mid _ _ _ _ _) left c.note_above-noted.ensures.first in
+    search rules
