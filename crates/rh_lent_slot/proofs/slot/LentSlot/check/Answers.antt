@@ -1,4 +1,4 @@
-use Rattle.rh_lent_slot.proofs.Common.{◌≤◌, ◌*◌, true, length, ap, ◌∙◌, arith, nat_tests, length-take-le, PAGE, slot_of, lent_slot_bytes}
+use Rattle.rh_lent_slot.proofs.Common.{◌≡◌, ◌≤◌, ◌*◌, true, length, ap, ◌∙◌, arith, nat_tests, length-take-le, PAGE, slot_of, lent_slot_bytes}
 use Rattle.std.proofs.lemmas.Result.{IfOk-weaker}
 use Rattle.rh_lent_slot.specs.LentSlotChecks.{pages_fault_of}
 use Rattle.rh_slot.specs.SlotChecks.{slot_summary}
