@@ -81,7 +81,7 @@ static void lengths_have_slots_or_not(void)
     static const uint8_t empty[16] = {'H', 'e', 'a', 'p', 0, 0, 0, 0, 16, 0, 0, 0, 0, 15, 0, 0};
     static uint8_t longest[LONGEST];
     struct vf_slot wide;
-    slot = (struct vf_slot){UNSET, false};
+    slot = (struct vf_slot){UNSET, false, 0};
     for (size_t i = 0; i < sizeof bad / sizeof *bad; i++)
         REFUSES(VF_BAD_LENGTH, vf_flex_start(memory, bad[i], &slot));
     start(PAGE);

@@ -31,7 +31,7 @@ static void set_image(void)
     memset(image, 0, PAGE);
     for (size_t i = 0; i < sizeof WORDS / sizeof *WORDS; i++)
         set_word(WORDS[i].at, WORDS[i].word);
-    slot = (struct vf_slot){1, true};
+    slot = (struct vf_slot){1, true, 0};
 }
 
 /* What each checked call answers on bytes that are no slot: why they are none, with nothing changed. */
