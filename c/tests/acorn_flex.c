@@ -134,7 +134,7 @@ static void blocks_of_many_slots_come_and_go(int calls)
             memset(copies[i], 0, LONGEST);
             sizes[i] = -1;
         }
-        if (!are_all(copies, sizes)) {
+        if ((call % 16 == 0 || call + 1 == calls) && !are_all(copies, sizes)) {
             EXPECT(!"each variable leads to its block");
             return;
         }
