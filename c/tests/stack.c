@@ -13,7 +13,7 @@
 
 enum { ROOM = 1 << 20, STACK = 1 << 20, FILL = 0xa5, KIB = 1024, SMALL_STACK = 24 * KIB, GUARD = 64 * KIB };
 enum { FEW = KIB, TRANSFER = 2 * KIB, QUESTION = 4 * KIB, COMMAND = 8 * KIB };
-enum { LISTS = 10 * KIB, ADDING = 60 * KIB, OPENING = 272 * KIB };
+enum { LISTS = 11 * KIB, ADDING = 60 * KIB, OPENING = 144 * KIB };
 
 static uint8_t memory[ROOM], bytes[8192];
 static uint64_t map[2 * ROOM / 512];
