@@ -289,10 +289,10 @@ uint32_t vf_heap_checked_block_size(const uint8_t *memory, size_t len, size_t ad
  * between calls. `len` is the number of bytes that lie at `memory`; it may differ from call to call.
  *
  * A block is told by its anchor, a number that you choose. Where it stands is a place: an index, so that memory[place]
- * is its first byte, and `memory + place` a pointer to it. A place is a multiple of 4. It holds until the next call of
- * vf_flex_free, extend, midextend, claim or resize that is done: ask vf_flex_place or vf_flex_places then, or go by
- * vf_flex_put and vf_flex_read, which take the anchor. The words of the slot hold addresses from &8000 on: 0x8000 more
- * than the place.
+ * is its first byte, and `memory + place` a pointer to it. A place is a multiple of 4. It holds as long as the count
+ * `slides` of the struct does: vf_flex_free, extend, midextend, claim and resize add 1 to it where they have moved a
+ * block, and no other call changes it. Ask vf_flex_place or vf_flex_places then, or go by vf_flex_put and vf_flex_read,
+ * which take the anchor. The words of the slot hold addresses from &8000 on: 0x8000 more than the place.
  *
  * Each call tests first, and has changed nothing then: VF_NULL; VF_BAD_LENGTH where `len` is below 4,096 or above
  * 28 MiB; VF_NO_SLOT; VF_SHORT where the pages of the slot exceed `len`; VF_BAD_ANCHOR where there is an anchor. A
@@ -307,11 +307,12 @@ uint32_t vf_heap_checked_block_size(const uint8_t *memory, size_t len, size_t ad
 /* What of a slot does not stand in its bytes. You keep it beside them, and read it at will; the calls write it. A copy
  * of both at another place is the same slot. */
 struct vf_slot {
-    size_t pages; /* how many pages are the slot's */
-    bool budge;   /* whether the flex blocks slide up where the C heap must grow */
+    size_t pages;    /* how many pages are the slot's */
+    bool budge;      /* whether the flex blocks slide up where the C heap must grow */
+    uint32_t slides; /* how many calls have moved a flex block; behind 4,294,967,295 comes 0 */
 };
 
-/* flex_init: makes the first page a slot with no block, budging on, whatever lay there. VF_BAD_LENGTH. */
+/* flex_init: makes the first page a slot with no block, budging on and no slide, whatever lay there. VF_BAD_LENGTH. */
 uint32_t vf_flex_start(uint8_t *memory, size_t len, struct vf_slot *slot);
 
 /* flex_alloc: puts a block of `n` bytes on top, all of them 0, and tells its place. `n` may be 0. VF_ANCHOR_IN_USE,
