@@ -282,8 +282,8 @@ int main(void)
     blocks_change_in_length();
     room_has_an_end();
     what_is_below_pushes_blocks_up();
-    blocks_of_many_slots_come_and_go(CALLS / 4);
     for (int round = 0; round < ROUNDS; round++)
         compare(CALLS / ROUNDS);
+    blocks_of_many_slots_come_and_go(CALLS / 4);
     return ended("acorn_flex");
 }

@@ -162,9 +162,12 @@ def try_header(suite):
 
 
 def try_examples(suite):
-    """Each example prints what stands beside it, compiled as pkg-config says where that is there."""
+    """Each example prints what stands beside it, compiled as pkg-config says where that is there.
+
+    The library for another machine is told to pkg-config where it is installed alone.
+    """
     flags = []
-    if shutil.which("pkg-config"):
+    if suite.target is HERE and shutil.which("pkg-config"):
         where = dict(os.environ, PKG_CONFIG_PATH=suite.folder)
         told = suite.ran("pkg-config", ["pkg-config", "--cflags", "--libs", archive.NAME], env=where)
         flags = (told or b"").decode().split()
