@@ -16,8 +16,9 @@ const SHORT: usize = 128;
 /// What moves by so many bytes or fewer, in whole words, moves by a distance that is known when this is built.
 const NEAR: usize = 64;
 
-/// What moves by so many bytes or more is copied in pieces that don't lie over their old places.
-const FAR: usize = 1024;
+/// What moves by so many bytes or more, and is shorter than the longest piece or moves further than that, is copied in
+/// pieces that don't lie over their old places.
+const FAR: usize = 256;
 
 /// The word of four bytes in little-endian order at an offset.
 #[tactic(auto, unfolding(rh_defs::specs::Bytes::word))]
@@ -106,10 +107,10 @@ fn next_piece(n: usize, gap: usize) -> usize
 {
     if 0 < gap && gap <= NEAR && gap % WORD == 0 {
         n.min(LONG)
+    } else if gap < LONG && LONG <= n {
+        LONG
     } else if FAR <= gap {
         n.min(gap)
-    } else if LONG <= n {
-        LONG
     } else if MIDDLE <= n {
         MIDDLE
     } else if SHORT <= n {

@@ -9,7 +9,7 @@ ghost use Rattle.rh_defs.specs.declared.sizes.TheConstants.{HEAP_FIRST, HEAP_FRE
 
 use crate::layout::{BLOCK, HOLE_SIZE};
 use crate::span::Span;
-use crate::span::words::{follow, read};
+use crate::span::words::{follow, read, read_hole};
 use rh_defs::sizes::{HEAP_BASE, HEAP_END, HEAP_FREE};
 use rh_store::Words;
 
@@ -29,12 +29,12 @@ pub fn find<S: Words>(store: &S, span: Span, size: usize) -> Option<Gap>
         (λ gap. FoundHole span.at (heap_in (S.memory store.now) span) size gap) }
 {
     let mut from = HEAP_FREE;
+    let mut place = follow(store, span, from);
     'walk: loop {
-        let place = follow(store, span, from);
         if place == 0 {
             return None;
         }
-        let room = read(store, span, place + HOLE_SIZE);
+        let (next, room) = read_hole(store, span, place);
         if size <= room {
             return Some(Gap {
                 from,
@@ -43,6 +43,7 @@ pub fn find<S: Words>(store: &S, span: Span, size: usize) -> Option<Gap>
             });
         }
         from = place;
+        place = next;
     }
 }
 

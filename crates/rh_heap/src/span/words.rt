@@ -5,8 +5,12 @@ ghost use Rattle.rh_defs.specs.Memory.{Memory, IsOpen, Edited, bytes};
 ghost use Rattle.rh_heap.specs.HeapSpans.{bytes_in};
 ghost use Rattle.rh_defs.specs.HeapParts.{LinksTo};
 ghost use Rattle.rh_defs.specs.declared.sizes.TheConstants.{WORD};
+ghost use Rattle.rh_heap.specs.declared.layout.TheConstants.{HOLE_SIZE};
 
+use crate::layout::HOLE_SIZE;
 use crate::span::Span;
+use rh_defs::sizes::WORD;
+use rh_store::bytes::word_in;
 use rh_store::{Words, WordsMut};
 
 /// The word at a place.
@@ -52,6 +56,27 @@ pub fn follow<S: Words>(store: &S, span: Span, from: usize) -> usize
 {
     let link = read(store, span, from);
     if link == 0 { 0 } else { from + link }
+}
+
+/// Where the link of a hole leads, 0 for nowhere, and the hole's size: by one look, where both words lie side by side.
+#[inline(always)]
+pub fn read_hole<S: Words>(store: &S, span: Span, place: usize) -> (usize, usize)
+    requires opened { IsOpen (S.memory store.now) span.area.0 }
+    requires within { span.at + place + HOLE_SIZE + WORD ≤ length (bytes_in (S.memory store.now) span) }
+    ensures next { LinksTo (bytes_in (S.memory store.now) span) span.at (span.at + place) result.0 }
+    ensures size { result.1 ≡ word (bytes_in (S.memory store.now) span) (span.at + (place + HOLE_SIZE)) }
+    ensures bound { result.1 < 2 ^ 32 }
+{
+    let run = store.run(span.area, span.at + place);
+    if run.len() < HOLE_SIZE + WORD {
+        return (
+            follow(store, span, place),
+            read(store, span, place + HOLE_SIZE),
+        );
+    }
+    let link = word_in(run, 0) as usize;
+    let next = if link == 0 { 0 } else { place + link };
+    (next, word_in(run, HOLE_SIZE) as usize)
 }
 
 /// Makes the link at `from` lead to a hole further on, or nowhere where `to` is 0.

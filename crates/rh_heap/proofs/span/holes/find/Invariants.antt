@@ -1,9 +1,11 @@
-use Rattle.rh_heap.proofs.Common.{◌-◌, base, heap_in}
+use Rattle.rh_heap.proofs.Common.{◌+◌, ◌-◌, LinksTo, base, bytes_in, heap_in}
 use Rattle.rh_heap.proofs.ClaimLaws.{Passed}
 use Rattle.rh_heap.proofs.span.holes.find.Given as goal
 
 abbrev pub invariant-walk : goal.invariant-walk
-invariant-walk g l = Passed l.span.at (heap_in (g.S.Words.memory l.store) l.span) l.size l.from
+invariant-walk g l =
+    let m = g.S.Words.memory l.store in
+    Passed l.span.at (heap_in m l.span) l.size l.from × LinksTo (bytes_in m l.span) l.span.at (l.span.at + l.from) l.place
 
 abbrev pub decreases-walk : goal.decreases-walk
 decreases-walk g l = base (heap_in (g.S.Words.memory l.store) l.span) - l.from
