@@ -1,7 +1,7 @@
 -- The records of the task at a place, edited.
-use Rattle.rh_tasks.proofs.Common.{◌≡◌, ℕ, ◌<◌, refl, ap, sym, subst, arith, true, ◌∙◌, Result, Ok, IsOk, Option, None, Some, IfSome, List, length, map, get_or}
+use Rattle.rh_tasks.proofs.Common.{◌≡◌, ℕ, ◌<◌, refl, ap, sym, subst, arith, true, ◌∙◌, Option, None, Some, IfSome, List, length, map, get_or}
 use Rattle.rh_tasks.proofs.Common.{set, length-map, Memory, OnlyArea-self}
-use Rattle.rh_tasks.proofs.Common.{FileList, Outgoing, Incoming, Refusal, Granted, outcome_of, result_or, Desk, Task, with_sending, with_taking, IsDesk}
+use Rattle.rh_tasks.proofs.Common.{FileList, Outgoing, Incoming, Desk, Task, with_sending, with_taking, IsDesk}
 use Rattle.rh_tasks.proofs.Common.{IsSlotIn, Seat, MadeArea}
 use Rattle.rh_tasks.proofs.Common.{Kept, HasSlot, task_of, desk_of, IsWorld, IsAt, Sits, all-at, mapped-at, mapped-is, Moves, moved-desk, moved-world}
 use Rattle.rh_defs.specs.declared.transfer_action.SendAction.{SendAction}

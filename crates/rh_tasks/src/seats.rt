@@ -8,10 +8,13 @@ ghost use Rattle.rh_defs.specs.Desk.{idle_block, idle_buffer};
 ghost use Rattle.rh_tasks.specs.View.{is_named, HasSlot};
 ghost use Rattle.rh_tasks.specs.Finding.{Owns, OwnsIdle, OwnsWith, looked};
 
-use crate::seat::Seats;
+use crate::seat::{Seat, Seats};
 use rh_defs::{Anchor, Name, Refusal};
 use rh_slot::Slot;
 use rh_store::Words;
+
+/// So many tasks are looked at in a turn.
+const TURN: usize = 4;
 
 /// Whether a task has the name.
 pub fn is_name_in_use(seats: &Seats, name: &Name) -> bool
@@ -22,6 +25,25 @@ pub fn is_name_in_use(seats: &Seats, name: &Name) -> bool
 
 fn position_of(seats: &Seats, name: &Name) -> Option<usize>
     ensures { result ≡ position (is_named name.now) seats.now.items }
+{
+    let all = seats.as_slice();
+    let mut at = 0;
+    while all.len() - at >= TURN {
+        if let Some(i) = position_in(&all[at..at + TURN], name) {
+            return Some(at + i);
+        }
+        at += TURN;
+    }
+    match position_in(&all[at..], name) {
+        Some(i) => Some(at + i),
+        None => None,
+    }
+}
+
+/// The place of the task with the name among some.
+#[inline(always)]
+fn position_in(seats: &[Seat], name: &Name) -> Option<usize>
+    ensures { result ≡ position (is_named name.now) seats.now }
 {
     seats.iter().position(|seat| seat.name == *name)
 }

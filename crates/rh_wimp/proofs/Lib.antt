@@ -24,4 +24,5 @@ pub mod PostCalls
 pub mod BesideLaws
 pub mod ItemLaws
 pub mod PeekLaws
+pub mod PlaceLaws
 pub mod Common

@@ -15,6 +15,9 @@ use rh_defs::sizes::MAX_TASKS;
 use rh_module::Module;
 use rh_store::WordsMut;
 
+/// So many entries are looked at in a turn.
+const TURN: usize = 4;
+
 /// A live handle, with the offsets in the module area of the first and last block of its chain and of the block that it
 /// holds, 0 for none.
 #[derive(Clone, Copy, Debug)]
@@ -39,6 +42,25 @@ impl Default for Entry {
 /// The place of the entry with a handle.
 pub fn find(entries: &Table<Entry, MAX_TASKS>, handle: Handle) -> Option<usize>
     ensures { result ≡ position (λ e. e.handle == handle) entries.now.items }
+{
+    let all = entries.as_slice();
+    let mut at = 0;
+    while all.len() - at >= TURN {
+        if let Some(i) = find_in(&all[at..at + TURN], handle) {
+            return Some(at + i);
+        }
+        at += TURN;
+    }
+    match find_in(&all[at..], handle) {
+        Some(i) => Some(at + i),
+        None => None,
+    }
+}
+
+/// The place of the entry with a handle among some.
+#[inline(always)]
+fn find_in(entries: &[Entry], handle: Handle) -> Option<usize>
+    ensures { result ≡ position (λ e. e.handle == handle) entries.now }
 {
     entries.iter().position(|e| e.handle == handle)
 }

@@ -5,12 +5,13 @@ ghost use Rattle.rh_defs.specs.Bytes.{with_part};
 ghost use Rattle.rh_defs.specs.Messages.{AreWords, Fits, HasName, body_bytes, data_words, encoded, encoded_length};
 ghost use Rattle.rh_defs.specs.Messages.{file_words, name_bytes, words};
 ghost use Rattle.rh_defs.specs.Pathnames.{is_pathname};
+ghost use Rattle.rh_defs.specs.Post.{message_of};
 ghost use Rattle.rh_wimp.specs.declared.layout.TheConstants.{ACTION, DATA, FILE_LENGTH, NAME, RAM_LENGTH};
 
 use crate::bytes::{put_bytes, put_word, put_words, put_zeros};
 use crate::layout::{ACTION, DATA, FILE_LENGTH, NAME, RAM_LENGTH};
 use rh_defs::sizes::{LONGEST_MESSAGE, WORD};
-use rh_defs::{Body, FileData, Message};
+use rh_defs::{Body, FileData, Letter, Message, Ref};
 
 /// The bytes that a name takes with its zero byte, in whole words.
 fn name_room(name: &[u8]) -> usize
@@ -125,9 +126,26 @@ fn encode_parts(from: u32, my_ref: u32, your_ref: u32, body: &Body, out: &mut [u
     length
 }
 
-/// Writes a message block into the bytes that the longest one takes, and answers its length; the bytes beyond it stay
-/// as they were.
-pub(crate) fn encode_into(message: &Message, out: &mut [u8]) -> usize
+/// Writes the message block of a letter that gets this ref into the bytes that the longest one takes, and answers its
+/// length; the bytes beyond it stay as they were.
+pub(crate) fn encode_letter(letter: &Letter, my_ref: Ref, out: &mut [u8]) -> usize
+    requires { length out.old ≡ LONGEST_MESSAGE }
+    ensures length { result ≡ encoded_length (message_of letter.now my_ref) }
+    ensures bytes { out.new ≡ with_part out.old 0 (encoded (message_of letter.now my_ref)) }
+    ensures short { result ≤ LONGEST_MESSAGE }
+    ensures fits { Fits (message_of letter.now my_ref) }
+{
+    encode_parts(
+        letter.from.0,
+        my_ref.0,
+        letter.your_ref.0,
+        &letter.body,
+        out,
+    )
+}
+
+/// Writes a message block as `encode_letter` does.
+fn encode_into(message: &Message, out: &mut [u8]) -> usize
     requires { length out.old ≡ LONGEST_MESSAGE }
     ensures length { result ≡ encoded_length message.now }
     ensures bytes { out.new ≡ with_part out.old 0 (encoded message.now) }

@@ -6,6 +6,7 @@ ghost use Rattle.rh_defs.specs.Chain.{answer_of};
 ghost use Rattle.rh_defs.specs.Heap.{Heap, release_block};
 ghost use Rattle.rh_defs.specs.Memory.{Memory, OnlyArea};
 ghost use Rattle.rh_defs.specs.Module.{module_claim};
+ghost use Rattle.rh_defs.specs.Post.{message_of};
 ghost use Rattle.rh_module.specs.ModuleArea.{IsModule, module_heap_in};
 ghost use Rattle.rh_wimp.specs.Moves.{Turns};
 ghost use Rattle.rh_defs.specs.Blocks.{HasBlock, block_bytes, poked};
@@ -17,36 +18,37 @@ ghost use Rattle.rh_wimp.specs.declared.layout.TheConstants.{MESSAGE, MY_REF};
 
 use crate::bytes::put_word;
 use crate::chain::Entry;
-use crate::encoding::encode_into;
+use crate::encoding::encode_letter;
 use crate::layout::{CODE, LINK, MESSAGE, MOST_PARCEL, MY_REF};
 use crate::table::Table;
 use rh_defs::sizes::MAX_TASKS;
-use rh_defs::{EventCode, Message, Ref, Refusal};
+use rh_defs::{Letter, Ref, Refusal};
 use rh_module::Module;
 use rh_store::{Pages, Words};
 
-/// Claims a block and writes a message into it, with link 0. Refused (`NoRoom`), and nothing changed, where the module
-/// area can't grow.
+/// Claims a block and writes a letter's message into it, under this ref and with link 0. Refused (`NoRoom`), and
+/// nothing changed, where the module area can't grow.
 pub fn place<S: Pages>(
     store: &mut S,
     module_area: Module,
-    code: EventCode,
-    message: &Message,
+    letter: &Letter,
+    my_ref: Ref,
 ) -> Result<usize, Refusal>
     requires { IsModule (S.memory store.old) module_area }
-    ensures answer { result ≡ answer_of (module_claim (S.memory store.old).free (parcel_size message.now)
-        (module_heap_in (S.memory store.old) module_area)) }
+    ensures answer { result ≡ answer_of (module_claim (S.memory store.old).free
+        (parcel_size (message_of letter.now my_ref)) (module_heap_in (S.memory store.old) module_area)) }
     ensures placed { (there : Heap × ℕ)
-        → module_claim (S.memory store.old).free (parcel_size message.now)
+        → module_claim (S.memory store.old).free (parcel_size (message_of letter.now my_ref))
         (module_heap_in (S.memory store.old) module_area) ≡ Ok there
         → Turns (S.memory store.old) (S.memory store.new) module_area
-        (poked there.1 0 (word_bytes 0 ++ (word_bytes (code_number code) ++ encoded message.now)) there.0) }
-    ensures fits { Fits message.now }
+        (poked there.1 0 (word_bytes 0 ++ (word_bytes (code_number letter.now.code)
+        ++ encoded (message_of letter.now my_ref))) there.0) }
+    ensures fits { Fits (message_of letter.now my_ref) }
     ensures err { OnErr result (S.memory store.new ≡ S.memory store.old) }
 {
     let mut parcel = [0u8; MOST_PARCEL];
-    put_word(&mut parcel, CODE, code.number());
-    let length = MESSAGE + encode_into(message, &mut parcel[MESSAGE..]);
+    put_word(&mut parcel, CODE, letter.code.number());
+    let length = MESSAGE + encode_letter(letter, my_ref, &mut parcel[MESSAGE..]);
     let block = module_area.claim(store, length as u32)?;
     module_area.write_bytes(store, block, LINK, &parcel[..length]);
     Ok(block)

@@ -16,7 +16,7 @@ use crate::placing::{holds_ref, place, put_down};
 use crate::queue::Queue;
 use crate::table::Table;
 use rh_defs::sizes::{MAX_TASKS, MOST_MESSAGES};
-use rh_defs::{Handle, Letter, Message, Ref, Refusal};
+use rh_defs::{Handle, Letter, Ref, Refusal};
 use rh_module::Module;
 use rh_store::{Pages, Words};
 
@@ -55,19 +55,30 @@ impl Queue {
         ensures handles { handles_of self.new ≡ handles_of self.old }
         ensures err { OnErr result ((S.memory store.new ≡ S.memory store.old) × (self.new ≡ self.old)) }
     {
+        self.send_lent(store, module_area, &letter)
+    }
+
+    /// Sends a letter that is lent, as `send` does.
+    pub fn send_lent<S: Pages>(
+        &mut self,
+        store: &mut S,
+        module_area: Module,
+        letter: &Letter,
+    ) -> Result<Ref, Refusal>
+        requires queue { IsQueue (S.memory store.old) module_area self.old }
+        requires from { HasEntry letter.now.from self.old }
+        ensures answer { Answers (S.memory store.old) module_area self.old
+            (λ post. answer_of (post_send (S.memory store.old).free letter.now post)) result }
+        ensures leaves { LeavesChains (S.memory store.old) (S.memory store.new) module_area self.old self.new
+            (λ post. left_of post (post_send (S.memory store.old).free letter.now post)) }
+        ensures handles { handles_of self.new ≡ handles_of self.old }
+        ensures err { OnErr result ((S.memory store.new ≡ S.memory store.old) × (self.new ≡ self.old)) }
+    {
         let to = self.admit(letter.to)?;
         let my_ref = Ref(self.next_ref as u32);
-        let from = letter.from;
-        let your_ref = letter.your_ref;
-        let code = letter.code;
-        let message = Message {
-            from,
-            my_ref,
-            your_ref,
-            body: letter.body,
-        };
-        let block = place(store, module_area, code, &message)?;
+        let block = place(store, module_area, letter, my_ref)?;
         append(store, module_area, &mut self.entries, to, block);
+        let (from, your_ref) = (letter.from, letter.your_ref);
         let freed = answer(store, module_area, &mut self.entries, from, your_ref);
         self.live = self.live + 1 - freed;
         self.next_ref += 1;

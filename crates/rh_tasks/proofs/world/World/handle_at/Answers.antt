@@ -1,4 +1,4 @@
-use Rattle.rh_tasks.proofs.Common.{refl, sym, ap, arith, option_map, task_of, Task, Sits}
+use Rattle.rh_tasks.proofs.Common.{refl, sym, arith, task_of, Sits}
 use Rattle.rh_tasks.proofs.SightLaws.{no-task-there, task-live, task-there}
 use Rattle.rh_tasks.proofs.world.World.handle_at.Goals as goal
 

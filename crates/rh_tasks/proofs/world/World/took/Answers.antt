@@ -1,5 +1,5 @@
 use Rattle.std.proofs.Common.{rules}
-use Rattle.rh_tasks.proofs.Common.{refl, ap, sym, subst, arith, length, Shown, member-at, le-true}
+use Rattle.rh_tasks.proofs.Common.{ap, sym, subst, arith, length, Shown, member-at, le-true}
 use Rattle.rh_defs.specs.declared.transfer_action.TakeAction.TheVariants as take
 use Rattle.rh_defs.specs.Receiver as receiver
 use Rattle.rh_tasks.specs.Inner.PollSteps.{CanTake}

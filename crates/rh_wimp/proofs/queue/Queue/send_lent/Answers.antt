@@ -12,23 +12,23 @@ use Rattle.rh_wimp.specs.Inner.LetterRefusals.{refusal_for}
 use Rattle.rh_defs.specs.Post.{post_send, queued_in}
 use Rattle.rh_wimp.proofs.SendLaws.{admitted-refs, owns-longer, send-refused, send-short, send-granted, Joined, letter-joined, letter-settled, last-stays}
 use Rattle.rh_wimp.proofs.SendLaws.{new-there}
-use Rattle.rh_wimp.proofs.queue.Queue.send.Goals as goal
-use Rattle.rh_wimp.proofs.queue.Queue.send.Goals.{In_ok-block}
-use Rattle.rh_wimp.proofs.queue.Queue.send.Given as given
+use Rattle.rh_wimp.proofs.queue.Queue.send_lent.Goals as goal
+use Rattle.rh_wimp.proofs.queue.Queue.send_lent.Goals.{In_ok-block}
+use Rattle.rh_wimp.proofs.queue.Queue.send_lent.Given as given
 
 pub returns-in_err-to-clause-answer : goal.returns-in_err-to-clause-answer
 returns-in_err-to-clause-answer g c = λ post p.
     let m = g.S.Words.memory c.args.store.now in
     let e = err_from_is_err_and c.from_residual.result c.from_residual.ensures.1 in
     let refused = send-refused
-    (module_heap_in m c.args.module_area) c.args.self.now post m.free c.args.letter c.in_err-to.field-0.0 p c.in_err-to.ensures.refused in
+    (module_heap_in m c.args.module_area) c.args.self.now post m.free c.args.letter.now c.in_err-to.field-0.0 p c.in_err-to.ensures.refused in
     rw (e.1, e.2) (sym (ap answer_of refused))
 
 pub returns-in_err-to-clause-leaves : goal.returns-in_err-to-clause-leaves
 returns-in_err-to-clause-leaves g c = left c.requires.queue (λ post p.
     let m = g.S.Words.memory c.args.store.now in
     let refused = send-refused
-    (module_heap_in m c.args.module_area) c.args.self.now post m.free c.args.letter c.in_err-to.field-0.0 p c.in_err-to.ensures.refused in
+    (module_heap_in m c.args.module_area) c.args.self.now post m.free c.args.letter.now c.in_err-to.field-0.0 p c.in_err-to.ensures.refused in
     subst (λ r. ArePostChains (module_heap_in m c.args.module_area) c.args.self.now (left_of post r)) (sym refused) p) c.requires.queue.area (OnlyArea-self
     (g.S.Words.memory c.args.store.now) c.args.module_area.area.0 c.requires.queue.area.opened)
 
@@ -36,8 +36,8 @@ pub returns-in_err-block-clause-answer : goal.returns-in_err-block-clause-answer
 returns-in_err-block-clause-answer g c = λ post p.
     let m = g.S.Words.memory c.args.store.now in
     let e = err_from_is_err_and c.from_residual-in_err-block.result c.from_residual-in_err-block.ensures.1 in
-    let refused = send-short (module_heap_in m c.args.module_area) c.args.self.now post m.free c.args.letter c.in_err-block.field-0.0 p c.in_ok-to.ensures.ok
-    c.in_err-block.ensures.answer in
+    let refused = send-short (module_heap_in m c.args.module_area) c.args.self.now post m.free c.args.letter.now c.in_err-block.field-0.0 p
+    c.in_ok-to.ensures.ok c.in_err-block.ensures.answer in
     rw (e.1, e.2) (sym (ap answer_of refused))
 
 pub returns-in_err-block-clause-leaves : goal.returns-in_err-block-clause-leaves
@@ -46,9 +46,9 @@ returns-in_err-block-clause-leaves g c =
     let same = sym c.in_err-block.ensures.err in
     left c.requires.queue (λ post p.
     let m = g.S.Words.memory c.args.store.now in
-    let refused = send-short (module_heap_in m c.args.module_area) c.args.self.now post m.free c.args.letter c.in_err-block.field-0.0 p c.in_ok-to.ensures.ok
-    c.in_err-block.ensures.answer in
-    subst (λ (n : Memory). ArePostChains (module_heap_in n c.args.module_area) c.args.self.now (left_of post (post_send m.free c.args.letter post)))
+    let refused = send-short (module_heap_in m c.args.module_area) c.args.self.now post m.free c.args.letter.now c.in_err-block.field-0.0 p
+    c.in_ok-to.ensures.ok c.in_err-block.ensures.answer in
+    subst (λ (n : Memory). ArePostChains (module_heap_in n c.args.module_area) c.args.self.now (left_of post (post_send m.free c.args.letter.now post)))
     (sym c.in_err-block.ensures.err)
     (subst (λ r. ArePostChains (module_heap_in m c.args.module_area) c.args.self.now (left_of post r)) (sym refused) p))
     (subst (λ (n : Memory). IsModule n c.args.module_area) same c.requires.queue.area)
@@ -70,8 +70,8 @@ seen g c = record { entries = c.self.inside.entries.items; live = c.self.inside.
 
 abbrev Asks : (g : given.Over) (c : In_ok-block g) → Chains → Post → Type 0
 Asks g c q post =
-    SpellsPostIn (g.S.Words.memory c.args.store.now) c.args.module_area q post × (refusal_for c.args.letter.to q ≡ None) × (c.in_ok-to.to < length q.entries)
-    × ((entry_at q.entries c.in_ok-to.to).handle ≡ c.args.letter.to) × HasEntry c.args.letter.from q
+    SpellsPostIn (g.S.Words.memory c.args.store.now) c.args.module_area q post × (refusal_for c.args.letter.now.to q ≡ None)
+    × (c.in_ok-to.to < length q.entries) × ((entry_at q.entries c.in_ok-to.to).handle ≡ c.args.letter.now.to) × HasEntry c.args.letter.now.from q
 
 asks : (g : given.Over) (c : In_ok-block g) (post : Post) → SpellsPostIn (g.S.Words.memory c.args.store.now) c.args.module_area c.args.self.now post
     → Asks g c (seen g c) post
@@ -99,12 +99,12 @@ append-requires-clause-small g c =
 joined : (g : given.Over) (c : In_ok-block g) (k : Memory) (post : Post) → SpellsPostIn
     (g.S.Words.memory c.args.store.now) c.args.module_area c.args.self.now post
     → Relinks (g.S.Words.memory c.place.new.store) k c.args.module_area (entry_at c.self.inside.entries.items c.in_ok-to.to).last c.in_ok-block.block
-    → Joined (g.S.Words.memory c.args.store.now) (g.S.Words.memory c.place.new.store) k c.args.module_area (seen g c) post c.args.letter c.in_ok-to.to
+    → Joined (g.S.Words.memory c.args.store.now) (g.S.Words.memory c.place.new.store) k c.args.module_area (seen g c) post c.args.letter.now c.in_ok-to.to
     c.in_ok-block.block
 unfolding seen
 joined g c k post p r =
     let a = asks g c post p in
-    letter-joined (g.S.Words.memory c.args.store.now) (g.S.Words.memory c.place.new.store) k c.args.module_area (seen g c) post c.args.letter c.in_ok-to.to
+    letter-joined (g.S.Words.memory c.args.store.now) (g.S.Words.memory c.place.new.store) k c.args.module_area (seen g c) post c.args.letter.now c.in_ok-to.to
     c.in_ok-block.block
     a.0 a.1 a.2 a.3 c.in_ok-block.ensures.fits c.in_ok-block.ensures.answer c.in_ok-block.ensures.placed r.heap
 
@@ -113,9 +113,9 @@ unfolding seen
 answer-freed-requires-clause-rows g c =
     let o = (goal.at.answer-freed-requires-clause-rows g c).In_ok-block in
     let j = joined g o (g.S.Words.memory c.append.new.store) c.requires.queue.post c.requires.queue.spells c.append.ensures.heap in (
-      rows_of (queued_in c.args.letter (j.plain, c.in_ok-block.block) c.requires.queue.post),
+      rows_of (queued_in c.args.letter.now (j.plain, c.in_ok-block.block) c.requires.queue.post),
       subst (λ es. RowsLie (module_heap_in (g.S.Words.memory c.append.new.store) c.args.module_area) es
-          (rows_of (queued_in c.args.letter (j.plain, c.in_ok-block.block) c.requires.queue.post))) (sym c.append.ensures.entries) j.spells.rows,
+          (rows_of (queued_in c.args.letter.now (j.plain, c.in_ok-block.block) c.requires.queue.post))) (sym c.append.ensures.entries) j.spells.rows,
     )
 
 pub invariant_of-self : goal.invariant_of-self
@@ -123,7 +123,7 @@ unfolding seen
 invariant_of-self g c =
     let o = (goal.at.invariant_of-self g c).In_ok-block in
     let a = asks g o c.requires.queue.post c.requires.queue.spells in
-    let few = admitted-refs c.args.letter.to (seen g o) a.1 in
+    let few = admitted-refs c.args.letter.now.to (seen g o) a.1 in
     omega arith
 
 pub returns-clause-answer : goal.returns-clause-answer
@@ -133,7 +133,7 @@ returns-clause-answer g c = λ post p.
     let m = g.S.Words.memory c.args.store.now in
     let a = asks g o post p in
     let j = joined g o (g.S.Words.memory c.append.new.store) post p c.append.ensures.heap in
-    ap Ok a.0.next_ref ∙ sym (ap answer_of (send-granted (module_heap_in m c.args.module_area) (seen g o) post m.free c.args.letter
+    ap Ok a.0.next_ref ∙ sym (ap answer_of (send-granted (module_heap_in m c.args.module_area) (seen g o) post m.free c.args.letter.now
     (j.plain, c.in_ok-block.block)
     j.admitted j.granted))
 
@@ -144,7 +144,7 @@ returns-clause-leaves g c = left c.requires.queue (λ post p.
     let m = g.S.Words.memory c.args.store.now in
     let n = g.S.Words.memory c.append.new.store in
     let k = g.S.Words.memory c.answer-freed.new.store in
-    let l = c.args.letter in
+    let l = c.args.letter.now in
     let b : ℕ = c.in_ok-block.block in
     let to : ℕ = c.in_ok-to.to in
     let q : Chains = seen g o in
@@ -180,5 +180,5 @@ returns-clause-handles g c =
     let post = c.requires.queue.post in
     let l = (returns-clause-leaves g c).spells post c.requires.queue.spells in
     handles-stay (module_heap_in m c.args.module_area) (module_heap_in k c.args.module_area) c.args.self.now _ post
-    (left_of post (post_send m.free c.args.letter post))
-    c.requires.queue.spells l (post_send-handles m.free c.args.letter post)
+    (left_of post (post_send m.free c.args.letter.now post))
+    c.requires.queue.spells l (post_send-handles m.free c.args.letter.now post)
