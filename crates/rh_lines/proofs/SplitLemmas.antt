@@ -2,6 +2,9 @@
 use Rattle.std.proofs.Common.{◌≡◌, ℕ, zero, suc, ◌+◌, ◌<◌, ◌≤◌, Bool, true, false, not, eqb, List, [], ◌∷◌, ◌++◌, length, take, drop, add-one, refl, sym, ◌∙◌}
 use Rattle.std.proofs.Common.{ap, arith, rules, lit≤, append_assoc, map, length-append, ◌-◌}
 use Rattle.std.proofs.lemmas.List.{take_all, take-append-le, take_rest, length-map}
+use Rattle.std.proofs.Common.{inl, inr, subst}
+use Rattle.std.proofs.lemmas.Bool.{cases_lt}
+use Rattle.memchr.specs.Find.{Nowhere}
 use borrow.Author.Tests.{tests}
 use Rattle.std.specs.List.{slice_split, onto_first, filter}
 use Rattle.std.specs.Prelude.{slice_index}
@@ -29,6 +32,13 @@ split_at p [] n lt h e = absurd (omega arith)
 split_at p (x ∷ xs) zero lt h e = rw e refl
 split_at p (x ∷ xs) (suc n) lt h e =
     no_first p x xs (p x) refl (h 0 (omega arith)) ∙ ap (onto_first x) (split_at p xs n (omega arith) (λ k lt. h (suc k) (omega arith)) e)
+
+-- one more place without
+pub none_more : (P : ℕ → Type 0) (i : ℕ) → Nowhere P 0 i → (P i → ⊥) → Nowhere P 0 (i + 1)
+none_more P i none here k low high = elim (cases_lt k i) [
+  | inl l ↦ none k low l
+  | inr g ↦ let is : i ≡ k = omega arith in subst (λ j. P j → ⊥) is here
+]
 
 -- the last word, behind the last space
 pub words_last : (xs : List ℕ) → NoneBelow (λ b. eqb b space) xs (length xs) → words_of xs ≡ piece_words xs

@@ -157,11 +157,8 @@ fn print_event<P: Pen>(
         ∷ outcome_words outcome.now) }
 {
     let mut row = Row::new();
-    row.text(b"ok ");
-    row.decimal(code.number());
-    row.byte(b' ');
-    row.text(action_name(action));
-    row.byte(b' ');
+    add_code(code, &mut row);
+    add_action(action, &mut row);
     row.decimal(my_ref.0);
     row.byte(b' ');
     row.decimal(your_ref.0);
@@ -242,17 +239,32 @@ fn add_failed(refusal: Refusal, row: &mut Row)
     row.byte(b'\n');
 }
 
-fn action_name(action: Action) -> &'static [u8]
-    ensures value { result.now ≡ action_name action }
-    ensures short { length result.now ≤ 11 }
+/// Begins the line of a message with its event code.
+fn add_code(code: EventCode, row: &mut Row)
+    requires { length row.old ≤ 50 }
+    ensures value { row.new ≡ row.old ++ (codes "ok " ++ (decimal (code_number code) ++ codes " ")) }
+    ensures few { length row.new ≤ length row.old + 6 }
+{
+    match code {
+        EventCode::User => row.text(b"ok 17 "),
+        EventCode::Recorded => row.text(b"ok 18 "),
+        EventCode::Acknowledge => row.text(b"ok 19 "),
+    }
+}
+
+/// Adds the name of an action, and a space.
+fn add_action(action: Action, row: &mut Row)
+    requires { length row.old ≤ 50 }
+    ensures value { row.new ≡ row.old ++ (action_name action ++ codes " ") }
+    ensures few { length row.new ≤ length row.old + 12 }
 {
     match action {
-        Action::DataSave => b"DataSave",
-        Action::DataSaveAck => b"DataSaveAck",
-        Action::DataLoad => b"DataLoad",
-        Action::DataLoadAck => b"DataLoadAck",
-        Action::RamFetch => b"RAMFetch",
-        Action::RamTransmit => b"RAMTransmit",
+        Action::DataSave => row.text(b"DataSave "),
+        Action::DataSaveAck => row.text(b"DataSaveAck "),
+        Action::DataLoad => row.text(b"DataLoad "),
+        Action::DataLoadAck => row.text(b"DataLoadAck "),
+        Action::RamFetch => row.text(b"RAMFetch "),
+        Action::RamTransmit => row.text(b"RAMTransmit "),
     }
 }
 

@@ -82,11 +82,16 @@ impl Row {
     }
 
     /// Adds a number in decimal.
+    #[tactic(auto, using(std::proofs::lemmas::Fmt::decimal_digit))]
     pub fn decimal(&mut self, number: u32)
         requires { length self.old + 11 ≤ ROW }
         ensures value { self.new ≡ self.old ++ decimal number }
         ensures few { length self.new ≤ length self.old + 11 }
     {
+        if number < 10 {
+            self.byte(b'0' + number as u8);
+            return;
+        }
         let mut buffer = Buffer::new();
         self.text(buffer.format(number).as_bytes());
     }

@@ -124,7 +124,11 @@ fn poll_of(words: &LineWords<'_>, command: &mut Command) -> Result<(), LineFault
 {
     counted(words, 2)?;
     let name = name_at(words, 2)?;
-    *command = Command::Poll { name };
+    if let Command::Poll { name: place } = command {
+        *place = name;
+    } else {
+        *command = Command::Poll { name };
+    }
     Ok(())
 }
 

@@ -3,7 +3,7 @@
 ghost use Rattle.std.specs.Prelude.{◌≡◌, ◌<◌, ◌≤◌, ◌++◌, ◌∷◌, [], length, map, All};
 ghost use Rattle.rh_defs.specs.Bytes.{space};
 ghost use Rattle.rh_defs.specs.Line.{words_of, nth_word};
-ghost use Rattle.memchr.specs.Find.{IsFirstByte, is_byte};
+ghost use Rattle.memchr.specs.Find.{IsFirstByte, Nowhere, Passes, is_byte};
 ghost use Rattle.rh_lines.specs.Words.{first_words};
 ghost use Rattle.rh_lines.specs.Inner.PieceWords.{piece_words};
 ghost use Rattle.rh_defs.specs.declared.sizes.TheConstants.{LONGEST_LINE};
@@ -17,6 +17,9 @@ const MOST_WORDS: usize = 6;
 
 /// Up to so many bytes are sooner looked over one by one than by `memchr`, which looks at many at once.
 const FEW: usize = 24;
+
+/// So many bytes are looked at in a turn.
+const TURN: usize = 4;
 
 /// The words of a line, up to the sixth.
 #[derive(Drop)]
@@ -97,14 +100,40 @@ fn split<'a>(line: &'a [u8], found: &mut ArrayVec<&'a [u8], MOST_WORDS>)
 }
 
 /// Where the first space stands.
+#[tactic(auto, using(crate::proofs::SplitLemmas::none_more))]
 fn first_space(piece: &[u8]) -> Option<usize>
     ensures { IsFirstByte (is_byte space) piece.now result }
 {
     if piece.len() > FEW {
         return memchr(b' ', piece);
     }
-    for (i, b) in piece.iter().enumerate() {
-        if *b == b' ' {
+    let mut at = 0;
+    while piece.len() - at >= TURN {
+        if piece[at] == b' ' {
+            return Some(at);
+        }
+        if piece[at + 1] == b' ' {
+            return Some(at + 1);
+        }
+        if piece[at + 2] == b' ' {
+            return Some(at + 2);
+        }
+        if piece[at + 3] == b' ' {
+            return Some(at + 3);
+        }
+        at += TURN;
+    }
+    space_from(piece, at)
+}
+
+/// Where the first space stands, if there is none before a place.
+fn space_from(piece: &[u8], from: usize) -> Option<usize>
+    requires within { from ≤ length piece.now }
+    requires none { Nowhere (Passes (is_byte space) piece.now) 0 from }
+    ensures { IsFirstByte (is_byte space) piece.now result }
+{
+    for i in from..piece.len() {
+        if piece[i] == b' ' {
             return Some(i);
         }
     }

@@ -126,6 +126,19 @@ impl<'a, W: Sink> WriterPen<'a, W> {
         let room = &mut *self.room;
         put_at(room, held, bytes);
     }
+
+    /// Writes these bytes behind those that are held, which are offered first.
+    #[inline(never)]
+    fn put_behind(&mut self, bytes: &[u8])
+        ensures { offered_of self.new ≡ offered_of self.old ++ bytes.now }
+    {
+        self.flush();
+        if bytes.len() <= self.room.len() {
+            self.hold(bytes);
+        } else {
+            self.offer(bytes);
+        }
+    }
 }
 
 impl<W: Sink> Pen for WriterPen<'_, W> {
@@ -136,13 +149,8 @@ impl<W: Sink> Pen for WriterPen<'_, W> {
     fn put(&mut self, bytes: &[u8]) {
         if bytes.len() <= self.room.len() - self.held {
             self.hold(bytes);
-            return;
-        }
-        self.flush();
-        if bytes.len() <= self.room.len() {
-            self.hold(bytes);
         } else {
-            self.offer(bytes);
+            self.put_behind(bytes);
         }
     }
 }
