@@ -69,7 +69,7 @@ STATUSES = {
     35: ("BAD_DESCRIPTOR", "the first 16 bytes are not those of a heap"),
     36: ("BAD_LINK", "a link does not lead to a hole ahead"),
     37: ("BAD_SEGMENT", "a size is not that of a segment"),
-    38: ("BAD_ANCHOR", "a slot has the anchors 0 to 63"),
+    38: ("BAD_ANCHOR", "the slot has no anchor with the number"),
     39: ("NO_SLOT", "the slot has no page: it was never started"),
     40: ("BAD_FLEX_BLOCK", "a flex block goes past the end of the slot's pages"),
     41: ("BAD_ANCHOR_WORD", "an anchor word is not 0, and leads to no flex block that names it"),
@@ -96,6 +96,10 @@ CALLS = {
     "vf_flex_checked_put": "pzpuzpz", "vf_flex_checked_read": "pzpuzpz", "vf_flex_checked_describe": "pzppp",
     "vf_flex_checked_claim": "pzpzp", "vf_flex_checked_release": "pzpz", "vf_flex_checked_resize": "pzpzdp",
     "vf_flex_checked_block_size": "pzpzp",
+    "vf_flex_start_with": "pzpu", "vf_flex_wide_alloc": "pzpuzp", "vf_flex_wide_free": "pzpu",
+    "vf_flex_wide_size": "pzpup", "vf_flex_wide_extend": "pzpuz", "vf_flex_wide_midextend": "pzpuzd",
+    "vf_flex_wide_place": "pzpup", "vf_flex_wide_places": "pzppz", "vf_flex_wide_put": "pzpuzpz",
+    "vf_flex_wide_read": "pzpuzpz", "vf_flex_wide_budge": "pzpzp",
     "vf_desk_file": "ppzpz", "vf_desk_open": "puuu", "vf_desk_close": "p", "vf_desk_task": "ppzuup",
     "vf_desk_kill": "ppz", "vf_desk_save": "ppzupzpzp", "vf_desk_poll": "ppzp", "vf_desk_next": "ppzpp",
     "vf_desk_cancel_in": "ppzu", "vf_desk_cancel_out": "ppzu", "vf_desk_repeat": "ppzp", "vf_desk_alloc": "ppzuup",
@@ -104,6 +108,8 @@ CALLS = {
     "vf_desk_budge": "ppzbp", "vf_desk_area": "puip", "vf_desk_make": "pup", "vf_desk_remove": "pu",
     "vf_desk_rma_claim": "pup", "vf_desk_rma_free": "pu", "vf_desk_rma_resize": "puip", "vf_desk_show": "ppzupzp",
     "vf_desk_blocks": "ppzpzp", "vf_desk_heap": "ppzppzp", "vf_desk_status": "ppzppzppzp", "vf_desk_areas": "pppzp",
+    "vf_desk_show_at": "ppzuupzp", "vf_desk_read": "ppzuupzp", "vf_desk_write": "ppzuupz",
+    "vf_desk_rma_read": "puupzp", "vf_desk_rma_write": "puupz", "vf_desk_transfer": "puuuuu",
     "vf_desk_line": "ppz", "vf_desk_reply": "ppzp",
 }
 KINDS = {"p": ctypes.c_void_p, "z": ctypes.c_size_t, "d": ctypes.c_ssize_t, "u": ctypes.c_uint32,
@@ -145,6 +151,8 @@ def _words(names):
 
 
 _Slot = _struct(("pages", ctypes.c_size_t), ("budge", ctypes.c_bool), ("slides", ctypes.c_uint32))
+_WideSlot = _struct(("base", ctypes.c_size_t), ("top", ctypes.c_size_t), ("anchors", ctypes.c_uint32),
+                    ("slides", ctypes.c_uint32))
 _Desk = _struct(("at", ctypes.c_void_p), ("live", ctypes.c_bool))
 _Event = _struct(*_words("code action my_ref your_ref did count sent refusal"))
 _Block = _struct(*_words("anchor address size"))
@@ -378,6 +386,84 @@ class Slot(_Memory):
     def block_size(self, place):
         """OS_Heap 6."""
         return _told(ctypes.c_size_t, "vf_flex_checked_block_size", *self._lent(), place)
+
+
+class WideSlot(_Memory):
+    """Flex blocks of 64 to 4,096 anchors that slide, in `room` bytes of its own.
+
+    No call checks the bytes: write to nothing of `memory` but blocks, and what `budge` gave.
+
+    >>> slot = WideSlot(40000, 4096)
+    >>> slot.alloc(4095, 5), slot.alloc(7, 0)
+    (32768, 32776)
+    >>> slot.put(4095, 0, b"hello")
+    >>> slot.extend(4095, 9)
+    >>> slot.place(7), slot.read(4095, 0, 6), slot.slides
+    (32784, b'hello\\x00', 1)
+    """
+
+    def __init__(self, room, anchors):
+        super().__init__(bytearray(room))
+        self._slot = _WideSlot()
+        _done("vf_flex_start_with", *self._lent(), anchors)
+
+    def _lent(self):
+        return self._at, len(self._at), ctypes.byref(self._slot)
+
+    @property
+    def slides(self):
+        """How many calls have moved a block: a place holds as long as this number does."""
+        return self._slot.slides
+
+    @property
+    def room(self):
+        """How many bytes are free."""
+        return len(self._at) - self._slot.top
+
+    def alloc(self, anchor, n):
+        """flex_alloc: the place of a new block, all 0."""
+        return _told(ctypes.c_size_t, "vf_flex_wide_alloc", *self._lent(), anchor, n)
+
+    def free(self, anchor):
+        """flex_free."""
+        _done("vf_flex_wide_free", *self._lent(), anchor)
+
+    def size(self, anchor):
+        """flex_size."""
+        return _told(ctypes.c_size_t, "vf_flex_wide_size", *self._lent(), anchor)
+
+    def extend(self, anchor, n):
+        """flex_extend."""
+        _done("vf_flex_wide_extend", *self._lent(), anchor, n)
+
+    def midextend(self, anchor, offset, by):
+        """flex_midextend."""
+        _done("vf_flex_wide_midextend", *self._lent(), anchor, offset, by)
+
+    def place(self, anchor):
+        """Where the anchor's block stands now."""
+        return _told(ctypes.c_size_t, "vf_flex_wide_place", *self._lent(), anchor)
+
+    def places(self):
+        """Where the block of each anchor that has one stands now."""
+        count = self._slot.anchors
+        places = (ctypes.c_size_t * count)()
+        _done("vf_flex_wide_places", *self._lent(), places, count)
+        return {anchor: place for anchor, place in enumerate(places) if place}
+
+    def put(self, anchor, offset, data):
+        """Writes bytes into the anchor's block."""
+        _done("vf_flex_wide_put", *self._lent(), anchor, offset, bytes(data), len(data))
+
+    def read(self, anchor, offset, n):
+        """`n` bytes of the anchor's block."""
+        to = (ctypes.c_uint8 * n)()
+        _done("vf_flex_wide_read", *self._lent(), anchor, offset, to, n)
+        return bytes(to)
+
+    def budge(self, n):
+        """flex_budge: the place of `n` bytes below the blocks, which slide up."""
+        return _told(ctypes.c_size_t, "vf_flex_wide_budge", *self._lent(), n)
 
 
 def _text(word):
@@ -661,6 +747,35 @@ class Desk:
         size = self._tell("show", *_text(name), anchor, b"", 0)
         to = (ctypes.c_uint8 * size)()
         self._tell("show", *_text(name), anchor, to, size)
+        return bytes(to)
+
+    def show_at(self, name, anchor, offset, n):
+        """`n` bytes of the anchor's block from an offset on."""
+        return self._read(n, "show_at", *_text(name), anchor, offset)
+
+    def read(self, name, address, offset, n):
+        """`n` bytes from an offset on of the block at an address of the task's slot."""
+        return self._read(n, "read", *_text(name), address, offset)
+
+    def write(self, name, address, offset, data):
+        """Writes bytes into the block at an address of the task's slot."""
+        self._do("write", *_text(name), address, offset, *_text(data))
+
+    def rma_read(self, address, offset, n):
+        """`n` bytes from an offset on of the block at an address of the module area."""
+        return self._read(n, "rma_read", address, offset)
+
+    def rma_write(self, address, offset, data):
+        """Writes bytes into the block at an address of the module area."""
+        self._do("rma_write", address, offset, *_text(data))
+
+    def transfer(self, sender, address, to, address2, n):
+        """Wimp_TransferBlock: moves bytes between the slots of tasks, told by their handles."""
+        self._do("transfer", sender, address, to, address2, n)
+
+    def _read(self, n, call, *words):
+        to = (ctypes.c_uint8 * n)()
+        self._tell(call, *words, to, n)
         return bytes(to)
 
     def blocks(self, name):

@@ -1,3 +1,5 @@
 pub mod Images
 pub mod Starts
 pub mod PlaceLaws
+pub mod WideLaws
+pub mod WideStarts

@@ -1,3 +1,4 @@
 pub mod LentSlotCalls
 pub mod SlotStatus
 pub mod SlotPlaces
+pub mod WideStatus

@@ -19,3 +19,5 @@ mod input;
 mod places;
 mod slot;
 mod status;
+mod wide;
+mod wide_input;

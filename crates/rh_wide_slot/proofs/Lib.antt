@@ -1,0 +1,7 @@
+pub mod CallLaws
+pub mod Common
+pub mod EditLaws
+pub mod EntryLaws
+pub mod Examples
+pub mod LeaveLaws
+pub mod ShiftLaws
