@@ -20,7 +20,7 @@ const GROUPS_OF_FORMS = [
     ["load NAME A FILE", "Puts the bytes of a file into a new flex block.", { A: FREE_ANCHOR }],
     ["put NAME A OFF HEX", "Writes bytes into a flex block.", { OFF: "where in the block the first byte goes" }],
     ["show NAME A", "Asks for the bytes of a flex block."],
-    ["blocks NAME", "Asks for the flex blocks from below: of each its anchor, its address and its size."],
+    ["blocks NAME", "Asks for the flex blocks from below: the anchor, address and size of each."],
     ["extend NAME A N", "Makes a flex block N bytes long. The blocks above it slide.", { N: "its new size in bytes" }],
     ["mid NAME A AT BY", "Puts bytes into a flex block at an offset, or takes bytes out before it.",
       { AT: "the offset", BY: "how many to put in, or with - to take out" }],

@@ -1,9 +1,11 @@
 //! The elements of a chart of messages.
 
-ghost use Rattle.std.specs.Prelude.{◌≡◌, ◌≤◌, ◌/◌, ◌++◌, codes, length, max, take};
+ghost use Rattle.std.specs.Prelude.{◌≡◌, ◌≤◌, ◌*◌, ◌/◌, ◌++◌, codes, length, max, take};
 ghost use Rattle.rh_elements.specs.declared.chart.TheConstants.{FARTHEST};
-ghost use Rattle.rh_sheet.specs.Chart.{beat_text, life_class as class_of_life, life_text, line_way as way_of_line};
-ghost use Rattle.rh_sheet.specs.Chart.{loop_way as way_of_loop, message_class as class_of_message};
+ghost use Rattle.rh_sheet.specs.Chart.{beat_text, fate_class as class_of_fate, is_lost as is_lost_at};
+ghost use Rattle.rh_sheet.specs.Chart.{life_class as class_of_life, life_text, line_way as way_of_line};
+ghost use Rattle.rh_sheet.specs.Chart.{loop_way as way_of_loop, lost_way as way_of_lost};
+ghost use Rattle.rh_sheet.specs.Chart.{message_class as class_of_message, part_way as place_on_way};
 ghost use Rattle.rh_sheet.specs.Chart.{message_way as way_of_message, message_words, side_letters as letters_of_side};
 ghost use Rattle.rh_sheet.specs.Chart.{stub_way as way_of_stub, tip_x as x_of_tip, words_aside as aside_of_words};
 ghost use Rattle.rh_sheet.specs.Chart.{words_class as class_of_words, words_down as down_of_words};
@@ -14,9 +16,10 @@ ghost use Rattle.rh_sheet.specs.declared.sizes.TheConstants.{LETTER_UNITS, LIFE_
 use crate::boxes::print_words;
 use crate::markup::{add_point, add_stretch, print_path};
 use rh_lines::{Pen, Row};
+use rh_sheet::Fate;
 use rh_sheet::sizes::{
     ARROW_RISE, ARROW_STUB, LETTER_UNITS, LIFE_TOP, LOOP_BOW, NAME_Y, STUB_ASIDE, STUB_DOWN,
-    TIP_GAP, WORDS_ASIDE, WORDS_DOWN,
+    TIP_GAP, VANISHES, WORDS_ASIDE, WORDS_DOWN,
 };
 
 /// No part of a chart is farther from its upper left corner.
@@ -29,6 +32,15 @@ pub struct Ends {
     pub y0: u32,
     pub x1: u32,
     pub y1: u32,
+}
+
+/// How an arrow is drawn: by the fate of its message, as a short one or not, and as one that began or ended at this
+/// step or not.
+#[derive(Clone, Copy)]
+pub struct Stroke {
+    pub fate: Fate,
+    pub short: bool,
+    pub now: bool,
 }
 
 /// Writes a task's name above its line, as far as the gap to the next has room, and the line.
@@ -102,7 +114,7 @@ fn side_letters(west: bool) -> &'static [u8]
     if west { b"h-" } else { b"h" }
 }
 
-/// A short arrow of a message that waits.
+/// A short arrow, of a message that waits.
 fn stub_way(x: u32, y: u32, west: bool) -> Row
     requires { y ≤ FARTHEST }
     ensures value { result ≡ way_of_stub x y west }
@@ -154,46 +166,103 @@ fn line_way(ends: Ends) -> Row
     way
 }
 
-/// The way of an arrow; one that waits has no end.
-fn message_way(waits: bool, ends: Ends) -> Row
+/// A place on the way from one to another, before its end.
+fn part_way(from: u32, to: u32) -> u32
+    requires from { from ≤ 2 * FARTHEST }
+    requires to { to ≤ FARTHEST }
+    ensures { result ≡ place_on_way from to }
+{
+    ((100 - VANISHES) * from + VANISHES * to) / 100
+}
+
+/// A straight arrow that doesn't come to the other line.
+fn lost_way(ends: Ends) -> Row
+    requires x0 { ends.x0 ≤ FARTHEST }
+    requires y0 { ends.y0 ≤ FARTHEST }
+    requires x1 { ends.x1 ≤ FARTHEST }
+    requires y1 { ends.y1 ≤ FARTHEST }
+    ensures value { result ≡ way_of_lost ends.x0 ends.y0 ends.x1 ends.y1 }
+    ensures few { length result ≤ 60 }
+{
+    let begin = ends.y0 + ARROW_RISE;
+    let mut way = Row::new();
+    add_point(&mut way, b"M", ends.x0, begin);
+    add_point(
+        &mut way,
+        b"L",
+        part_way(ends.x0, ends.x1),
+        part_way(begin, ends.y1),
+    );
+    way
+}
+
+/// Whether a message with the fate has vanished.
+pub fn is_lost(fate: Fate) -> bool
+    ensures { result ≡ is_lost_at fate }
+{
+    matches!(fate, Fate::Vanished)
+}
+
+/// The way of an arrow; a short one has no end.
+fn message_way(short: bool, lost: bool, ends: Ends) -> Row
     requires x0 { ends.x0 ≤ FARTHEST }
     requires x1 { ends.x1 ≤ FARTHEST }
-    requires y { ends.y0 ≤ FARTHEST }
-    ensures value { result ≡ way_of_message waits ends.x0 ends.y0 ends.x1 ends.y1 }
+    requires y0 { ends.y0 ≤ FARTHEST }
+    requires y1 { ends.y1 ≤ FARTHEST }
+    ensures value { result ≡ way_of_message short lost ends.x0 ends.y0 ends.x1 ends.y1 }
     ensures few { length result ≤ 100 }
 {
-    if waits {
+    if short {
         stub_way(ends.x0, ends.y0, ends.x1 < ends.x0)
     } else if ends.x0 == ends.x1 {
         loop_way(ends.x0, ends.y0, ends.y1)
+    } else if lost {
+        lost_way(ends)
     } else {
         line_way(ends)
     }
 }
 
-/// The classes of an arrow.
-fn message_class(waits: bool, now: bool) -> &'static [u8]
-    ensures value { result.now ≡ class_of_message waits now }
-    ensures few { length result.now ≤ 13 }
+/// The class of an arrow by the fate of its message.
+fn fate_class(fate: Fate) -> &'static [u8]
+    ensures value { result.now ≡ class_of_fate fate }
+    ensures few { length result.now ≤ 9 }
 {
-    match (waits, now) {
-        (false, false) => b"msg",
-        (false, true) => b"msg now",
-        (true, false) => b"msg waits",
-        (true, true) => b"msg waits now",
+    match fate {
+        Fate::Queued => b" waits",
+        Fate::Held => b" held",
+        Fate::Back => b" untaken",
+        Fate::Vanished => b" vanished",
+        _ => b"",
     }
 }
 
-/// Writes the arrow of a message, which waits or not, and began or ended at this step or not.
-pub fn print_message_arrow<P: Pen>(waits: bool, now: bool, ends: Ends, pen: &mut P)
+/// The classes of an arrow.
+fn message_class(fate: Fate, now: bool) -> Row
+    ensures value { result ≡ class_of_message fate now }
+    ensures few { length result ≤ 16 }
+{
+    let mut class = Row::new();
+    class.text(b"msg");
+    class.text(fate_class(fate));
+    if now {
+        class.text(b" now");
+    }
+    class
+}
+
+/// Writes the arrow of a message.
+pub fn print_message_arrow<P: Pen>(stroke: Stroke, ends: Ends, pen: &mut P)
     requires x0 { ends.x0 ≤ FARTHEST }
     requires x1 { ends.x1 ≤ FARTHEST }
-    requires y { ends.y0 ≤ FARTHEST }
-    ensures { P.offered pen.new ≡ P.offered pen.old
-        ++ path_text (class_of_message waits now) (way_of_message waits ends.x0 ends.y0 ends.x1 ends.y1) }
+    requires y0 { ends.y0 ≤ FARTHEST }
+    requires y1 { ends.y1 ≤ FARTHEST }
+    ensures { P.offered pen.new ≡ P.offered pen.old ++ path_text (class_of_message stroke.fate stroke.now)
+        (way_of_message stroke.short (is_lost_at stroke.fate) ends.x0 ends.y0 ends.x1 ends.y1) }
 {
-    let way = message_way(waits, ends);
-    print_path(message_class(waits, now), &way, pen);
+    let class = message_class(stroke.fate, stroke.now);
+    let way = message_way(stroke.short, is_lost(stroke.fate), ends);
+    print_path(class.as_slice(), &way, pen);
 }
 
 /// The classes of an arrow's words.
@@ -210,44 +279,45 @@ fn words_class(west: bool, now: bool) -> &'static [u8]
 }
 
 /// How far from an arrow's beginning its words stand, to the side.
-fn words_aside(waits: bool) -> u32
-    ensures value { result ≡ aside_of_words waits }
+fn words_aside(short: bool) -> u32
+    ensures value { result ≡ aside_of_words short }
     ensures few { result ≤ STUB_ASIDE }
 {
-    if waits { STUB_ASIDE } else { WORDS_ASIDE }
+    if short { STUB_ASIDE } else { WORDS_ASIDE }
 }
 
 /// How far from an arrow's beginning its words stand, downwards.
-fn words_down(waits: bool) -> u32
-    ensures value { result ≡ down_of_words waits }
+fn words_down(short: bool) -> u32
+    ensures value { result ≡ down_of_words short }
     ensures few { result ≤ WORDS_DOWN }
 {
-    if waits { STUB_DOWN } else { WORDS_DOWN }
+    if short { STUB_DOWN } else { WORDS_DOWN }
 }
 
 /// Where an arrow's words stand, from the left.
-fn words_x(waits: bool, ends: Ends) -> u32
+fn words_x(short: bool, ends: Ends) -> u32
     requires { ends.x0 ≤ FARTHEST }
-    ensures { result ≡ x_of_words waits ends.x0 ends.x1 }
+    ensures { result ≡ x_of_words short ends.x0 ends.x1 }
 {
     if ends.x1 < ends.x0 {
-        ends.x0.saturating_sub(words_aside(waits))
+        ends.x0.saturating_sub(words_aside(short))
     } else {
-        ends.x0 + words_aside(waits)
+        ends.x0 + words_aside(short)
     }
 }
 
 /// Writes the words of an arrow.
-pub fn print_message_words<P: Pen>(waits: bool, now: bool, ends: Ends, text: &[u8], pen: &mut P)
+pub fn print_message_words<P: Pen>(stroke: Stroke, ends: Ends, text: &[u8], pen: &mut P)
     requires x { ends.x0 ≤ FARTHEST }
     requires y { ends.y0 ≤ FARTHEST }
-    ensures { P.offered pen.new ≡ P.offered pen.old ++ message_words waits now ends.x0 ends.y0 ends.x1 text.now }
+    ensures { P.offered pen.new ≡ P.offered pen.old
+        ++ message_words stroke.short stroke.now ends.x0 ends.y0 ends.x1 text.now }
 {
-    let class = words_class(ends.x1 < ends.x0, now);
+    let class = words_class(ends.x1 < ends.x0, stroke.now);
     print_words(
         class,
-        words_x(waits, ends),
-        ends.y0 + words_down(waits),
+        words_x(stroke.short, ends),
+        ends.y0 + words_down(stroke.short),
         text,
         pen,
     );

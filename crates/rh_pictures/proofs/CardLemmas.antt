@@ -1,9 +1,9 @@
 -- Bands of cards: which cards of a list are shown.
-use Rattle.rh_pictures.proofs.Common.{◌≡◌, ◌⊎◌, inl, inr, add-one, append-nil, append_assoc, ℕ, zero, suc, ◌+◌, ◌-◌, ◌<◌, ◌≤◌, Bool, true, false, refl, ap, sym}
-use Rattle.rh_pictures.proofs.Common.{subst, ◌∙◌, arith, List, [], ◌∷◌, ◌++◌, length, take, drop, get_or, Some, None, min, filter, if◌then◌else◌, nat_le}
-use Rattle.rh_pictures.proofs.Common.{slice_get, nat_tests, drop_all, drop_more, take_all, slice_get-get_or, slice_get_within, BlockItem, Task, block_items}
-use Rattle.rh_pictures.proofs.Common.{flex_start, Card, flex_cards, more_card, shown_cards, card_line, is_fresh_flex, Scene, card_lines, cards_behind, codes}
-use Rattle.rh_pictures.proofs.Common.{count_shown, length-take, place_behind, rest-some, shown_lines}
+use Rattle.rh_pictures.proofs.Common.{◌≡◌, ◌⊎◌, inl, inr, add-one, append_assoc, ℕ, zero, suc, ◌+◌, ◌-◌, ◌<◌, ◌≤◌, Bool, true, false, refl, ap, sym, subst, ◌∙◌}
+use Rattle.rh_pictures.proofs.Common.{arith, List, [], ◌∷◌, ◌++◌, length, take, drop, get_or, Some, None, min, filter, if◌then◌else◌, nat_le, slice_get}
+use Rattle.rh_pictures.proofs.Common.{nat_tests, drop_all, drop_more, take_all, slice_get-get_or, slice_get_within, BlockItem, Task, block_items, flex_start}
+use Rattle.rh_pictures.proofs.Common.{Card, flex_cards, more_card, shown_cards, card_line, is_fresh_flex, Scene, card_lines, cards_behind, codes, count_shown}
+use Rattle.rh_pictures.proofs.Common.{length-take, place_behind, rest-some, shown_lines}
 use Rattle.rh_defs.specs.Questions.{block_items_from}
 use Rattle.rh_defs.specs.Slot.{Flex, weight}
 use Rattle.rh_figure.specs.Cards.{flex_card, flex_cards_from, use_of_block}
@@ -156,27 +156,6 @@ count-most n = go (le-or n)
     go : (n ≤ 24) ⊎ (24 < n) → count_shown n ≤ 24
     go (inl few) = let k = all-count n few in omega arith
     go (inr many) = let k = some-count n many in omega arith
-
-pub record ShownSplit (cards : List Card) : Type 0 where
-  pub behind : List Card
-  pub is : shown_cards cards ≡ take (count_shown (length cards)) cards ++ behind
-
-pub shown-split : (cards : List Card) → ShownSplit cards
-shown-split cards = go (le-or (length cards))
-  where
-    go : (length cards ≤ 24) ⊎ (24 < length cards) → ShownSplit cards
-    go (inl few) =
-        record {
-          behind = [];
-          is = shown-few cards few
-              ∙ (sym (take_all (count_shown (length cards)) cards (omega (arith, all-count (length cards) few)))
-              ∙ sym (append-nil (take (count_shown (length cards)) cards)));
-        }
-    go (inr many) =
-        record {
-          behind = cards_behind cards;
-          is = shown-parts cards many ∙ ap (λ n. take n cards ++ cards_behind cards) (sym (some-count (length cards) many));
-        }
 
 -- ---- what is shown of cards
 

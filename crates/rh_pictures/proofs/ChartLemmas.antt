@@ -1,7 +1,8 @@
 -- The text of a chart, part by part.
 use Rattle.rh_pictures.proofs.Common.{◌≡◌, ℕ, ◌+◌, ◌<◌, true, false, refl, ap₂, ◌∙◌, arith, append_assoc, append-nil, List, [], ◌∷◌, ◌++◌, length, ◌==◌, codes}
 use Rattle.rh_pictures.proofs.Common.{concat, flat_map, Desk, with_queue, Text, Note, arrow_sentence, arrows, steps_in, tasks_in, escape, figure_open}
-use Rattle.rh_pictures.proofs.Common.{MessageArrow, arrow_of, arrows_seen}
+use Rattle.rh_pictures.proofs.Common.{MessageArrow, arrow_of, arrows_seen, flat_map-append, get_or, take}
+use Rattle.std.proofs.lemmas.List.{map-append, take_more}
 use Rattle.rh_sheet.specs.declared.sizes.TheConstants.{CHART_EDGE, CHART_WIDTH}
 use Rattle.rh_sheet.specs.Chart.{Arrow, chart_body, chart_foot, chart_of}
 use Rattle.rh_pictures.proofs.UnderLemmas.{is_some, some-more}
@@ -47,3 +48,10 @@ drawn-some (w ∷ ws) notes e some = omega arith
 pub chart-seen : (d : Desk) (drawn : List Arrow) (step : ℕ) → chart_of d drawn step ≡ chart_of (with_queue [] d) drawn step
 chart-seen d [] step = refl
 chart-seen d (a ∷ drawn) step = refl
+
+-- one arrow more was written
+pub one-more : (f : Arrow → Text) (ws : List MessageArrow) (i : ℕ) (none : MessageArrow) (o m n : Text) → i < length ws
+    → m ≡ o ++ flat_map f (arrows_seen (take i ws)) → n ≡ m ++ f (arrow_of (get_or ws i none))
+    → n ≡ o ++ flat_map f (arrows_seen (take (i + 1) ws))
+one-more f ws i none o m n inside before next =
+    simp (next, before, take_more ws i none inside, map-append arrow_of, flat_map-append f, append_assoc, append-nil)

@@ -64,7 +64,8 @@ pub use Rattle.rh_scene.specs.SightMessages.{held_on, lies_in, message_items, wa
 pub use Rattle.rh_scene.specs.SightPages.{share_in}
 pub use Rattle.rh_scene.specs.Steps.{scene_at}
 pub use Rattle.rh_scene.specs.declared.walk.Census.{Census}
-pub use Rattle.rh_sheet.specs.Chart.{arrow_sentence, arrows, followed, inserted, noted, steps_in, tasks_in}
+pub use Rattle.rh_sheet.specs.Chart.{arrow_sentence, arrows, inserted, steps_in, tasks_in}
+pub use Rattle.rh_sheet.specs.Fates.{followed, noted}
 pub use Rattle.rh_sheet.specs.Markup.{escape, escaped_byte, figure_open, heading_text}
 pub use Rattle.rh_sheet.specs.Sheet.{Happened, Walk, behind_read, fault_happened, happened_text, read_text, sheet_lines}
 pub use Rattle.rh_sheet.specs.SheetAreas.{lens_below, ticks_text}
@@ -90,7 +91,7 @@ pub use Rattle.rh_pictures.specs.Inner.Charts.{beat_in, path_in, words_in}
 pub use Rattle.rh_pictures.specs.Inner.Figures.{IsSlotPlan}
 pub use Rattle.rh_pictures.specs.Inner.LettersBehind.{letterboxes_in}
 pub use Rattle.rh_pictures.specs.Inner.Marked.{made_pages, marked, marked_all, slot_pages_from}
-pub use Rattle.rh_pictures.specs.Inner.Notes.{code_among}
+pub use Rattle.rh_pictures.specs.Inner.Notes.{code_among, seen_among}
 pub use Rattle.rh_pictures.specs.Inner.PaintedSteps.{happened_at}
 pub use Rattle.rh_pictures.specs.Inner.PartsBehind.{area_part, card_lines, panel_part}
 pub use Rattle.rh_pictures.specs.Inner.ReturnLines.{return_lines}

@@ -1,13 +1,9 @@
 -- Lists that are shown or looked through, place by place.
-use Rattle.rh_pictures.proofs.Common.{◌≡◌, ℕ, ◌+◌, ◌<◌, ap, sym, ◌∙◌, List, [], ◌∷◌, ◌++◌, length, drop, get_or, Some, None, append_assoc, append-nil, codes}
-use Rattle.rh_pictures.proofs.Common.{◌-◌, arith, slice_get, slice_get_within, flat_map, drop_more, Text, map, shown_lines, shown-append, rest-none, rest-some}
+use Rattle.rh_pictures.proofs.Common.{◌≡◌, ℕ, ◌+◌, ◌<◌, ap, sym, ◌∙◌, List, [], ◌∷◌, ◌++◌, length, drop, Some, None, append_assoc, append-nil, codes}
+use Rattle.rh_pictures.proofs.Common.{offered_as, ◌-◌, arith, slice_get, slice_get_within, flat_map, Text, map, shown_lines, shown-append, rest-none, rest-some}
 use Rattle.rh_figure.specs.Map.{shown_line}
 use Rattle.rh_map.proofs.SeamLemmas.{shown-one}
 use Rattle.std.proofs.lemmas.List.Folds.{flat_map-map}
-
--- the place of a slice that a loop is at
-pub rest-at : {A : Type 0} (xs : List A) (i : ℕ) (x : A) → i < length xs → x ≡ get_or xs i x → drop i xs ≡ x ∷ drop (i + 1) xs
-rest-at xs i x inside e = drop_more xs i x inside ∙ ap (λ y. y ∷ drop (i + 1) xs) (sym e)
 
 -- a walk by place goes on
 pub walk-less : {A : Type 0} (xs : List A) (i : ℕ) (x : A) → slice_get xs i ≡ Some x → length xs - (i + 1) < length xs - i
@@ -33,14 +29,7 @@ shown-each line xs = sym (flat_map-map (λ l. shown_line l ++ codes "\n") line x
 
 -- ---- what a pen is offered
 
--- a text, told in another way
-pub offered_as : {new x y : List ℕ} (old : List ℕ) → x ≡ y → new ≡ old ++ x → new ≡ old ++ y
-offered_as old e p = p ∙ ap (λ z. old ++ z) e
-
--- no line, a single one, and lines behind lines
-pub offered_none : (old : List ℕ) → old ≡ old ++ []
-offered_none old = sym (append-nil old)
-
+-- a single line, and lines behind lines
 pub offered_line : {new : List ℕ} {x y : Text} (old : List ℕ) → x ≡ y → new ≡ old ++ (shown_line x ++ codes "\n") → new ≡ old ++ shown_lines (y ∷ [])
 offered_line {y = y} old e p = offered_as old (ap (λ l. shown_line l ++ codes "\n") e ∙ sym (shown-one y)) p
 

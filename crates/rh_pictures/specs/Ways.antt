@@ -14,7 +14,15 @@ way_words w = concat (
     )
 
 abbrev pub arrow_of : MessageArrow → Arrow
-arrow_of w = record { start = w.start; stop = w.stop; from = w.from; to = w.to; words = way_words w }
+arrow_of w = record {
+  start = w.start;
+  stop = w.stop;
+  from = w.from;
+  to = w.to;
+  words = way_words w;
+  fate = w.fate;
+  wants_answer = w.wants_answer;
+}
 
 abbrev pub arrows_seen : List MessageArrow → List Arrow
 arrows_seen ways = map arrow_of ways

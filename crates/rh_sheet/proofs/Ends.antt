@@ -21,7 +21,8 @@ use Rattle.rh_sheet.specs.Fixed.{style_text, signs_text, key_text}
 use Rattle.rh_sheet.specs.Pool.{grid_text, pool_figure}
 use Rattle.rh_sheet.specs.SheetAreas.{slot_figure}
 use Rattle.rh_sheet.specs.Tables
-use Rattle.rh_sheet.specs.Chart.{Note, arrows, chart_figure, noted}
+use Rattle.rh_sheet.specs.Chart.{arrows, chart_figure}
+use Rattle.rh_sheet.specs.Fates.{Note, noted}
 use Rattle.rh_sheet.specs.SheetSteps as steps
 use Rattle.rh_sheet.specs.Sheet
 use Rattle.rh_sheet.specs.WellFormed.{Reader, Words, read_on, EndsAll}

@@ -28,6 +28,7 @@ use Rattle.rh_sheet.specs.SheetCards
 use Rattle.rh_sheet.specs.Arrows
 use Rattle.rh_sheet.specs.SheetAreas
 use Rattle.rh_sheet.specs.Chart
+use Rattle.rh_sheet.specs.Fates.{Fate, Queued, Taken, Held, Answered, Back, Returned, Vanished}
 use Rattle.rh_sheet.specs.Frames.{Frame, shown_rows, page_in, row_y, rows_top, rows_foot, frame_height}
 use Rattle.rh_sheet.specs.declared.sizes.TheConstants.{ROW_WIDTH, CELL, POOL_COLUMNS, POOL_NAME_Y, POOL_NOTE_Y, FIGURE_WIDTH, FRAME_EDGE, LENS_HEIGHT}
 use Rattle.rh_sheet.specs.declared.sizes.TheConstants.{CHART_WIDTH, CHART_EDGE}
@@ -352,11 +353,20 @@ life-whole alive name gap x foot = whole-both
     (path-whole (codes "life") _ (plain refl) (value-both
     (point_text (codes "M") x _) _ (point (codes "M") x _ (plain refl)) (stretch-value (codes "V") foot (plain refl))))
 
-message-value : (waits now : Bool) → Value (Chart.message_class waits now)
-message-value true true = record { reads = λ around name. refl }
-message-value true false = record { reads = λ around name. refl }
-message-value false true = record { reads = λ around name. refl }
-message-value false false = record { reads = λ around name. refl }
+fate-value : (fate : Fate) → Value (Chart.fate_class fate)
+fate-value Queued = plain refl
+fate-value Taken = value-none
+fate-value Held = plain refl
+fate-value Answered = value-none
+fate-value Back = plain refl
+fate-value Returned = value-none
+fate-value Vanished = plain refl
+
+message-value : (fate : Fate) (now : Bool) → Value (Chart.message_class fate now)
+message-value fate now = value-both
+    (codes "msg") _ (plain refl) (value-both
+    (Chart.fate_class fate) _ (fate-value fate) (value-both
+    (where_so now (codes " now")) [] (value-so now (codes " now") (plain refl)) value-none))
 
 words-value : (west now : Bool) → Value (Chart.words_class west now)
 words-value true true = record { reads = λ around name. refl }
@@ -368,13 +378,16 @@ side-value : (west : Bool) → Value (Chart.side_letters west)
 side-value true = record { reads = λ around name. refl }
 side-value false = record { reads = λ around name. refl }
 
-message-way : (waits : Bool) (x0 y0 x1 y1 : ℕ) → Value (Chart.message_way waits x0 y0 x1 y1)
-message-way waits x0 y0 x1 y1 = value-if
-    waits _ _ (value-both
+message-way : (short lost : Bool) (x0 y0 x1 y1 : ℕ) → Value (Chart.message_way short lost x0 y0 x1 y1)
+message-way short lost x0 y0 x1 y1 = value-if
+    short _ _ (value-both
     (point_text (codes "M") x0 _) _ (point (codes "M") x0 _ (plain refl)) (stretch-value _ _ (side-value (nat_lt x1 x0))))
     (value-if
     (x0 == x1) _ _ (four-points _ _ _ _ _ _ _ _)
-    (value-both (point_text (codes "M") x0 _) _ (point (codes "M") x0 _ (plain refl)) (point (codes "L") _ y1 (plain refl))))
+    (value-if
+    lost _ _
+    (value-both (point_text (codes "M") x0 _) _ (point (codes "M") x0 _ (plain refl)) (point (codes "L") _ _ (plain refl)))
+    (value-both (point_text (codes "M") x0 _) _ (point (codes "M") x0 _ (plain refl)) (point (codes "L") _ y1 (plain refl)))))
 
 chart-body-whole : (d : Desk) (drawn : List Chart.Arrow) (tasks steps : List ℕ) (step : ℕ) → Whole (Chart.chart_body d drawn tasks steps step)
 chart-body-whole d drawn tasks steps step = record {
@@ -387,7 +400,7 @@ chart-body-whole d drawn tasks steps step = record {
           (whole-all (λ s. Chart.beat_text (Chart.step_y steps s) s) steps (λ s. words-whole (codes "beat") _ _ _ (plain refl))).reads around,
           (
             (whole-all (Chart.arrow_path tasks steps step) drawn (λ (a : Chart.Arrow). path-whole _ _ (message-value _ _)
-                (message-way (Chart.arrow_waits a) (Chart.task_x tasks a.from) (Chart.step_y steps a.start) (Chart.task_x tasks a.to)
+                (message-way (Chart.is_short a) (Chart.is_lost a.fate) (Chart.task_x tasks a.from) (Chart.step_y steps a.start) (Chart.task_x tasks a.to)
                 (Chart.step_y steps a.stop)))).reads around,
             ((whole-all (Chart.arrow_words tasks steps step) drawn (λ a. words-whole _ _ _ _ (words-value _ _))).reads around, tt),
           ),

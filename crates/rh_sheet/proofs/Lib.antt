@@ -8,3 +8,4 @@ mod Elements
 mod Figures
 mod Ends
 mod Retold
+mod Dated

@@ -10,7 +10,7 @@ use Rattle.rh_figure.specs.Phrases.{Text, where_so}
 use Rattle.rh_figure.specs.Scene.{Scene, before_of}
 use Rattle.rh_figure.specs.Map.{Stage, place, is_mark}
 use Rattle.rh_sheet.specs.Markup.{escape, escaped_byte}
-use Rattle.rh_sheet.specs.Chart.{Note, noted}
+use Rattle.rh_sheet.specs.Fates.{Note, noted}
 use Rattle.rh_sheet.specs.SheetSteps as steps
 use Rattle.rh_sheet.specs.Sheet
 use Rattle.rh_sheet.specs.WellFormed.{Reader, Words, Sign, read_byte, read_on}

@@ -1,93 +1,64 @@
 -- The chart of the last messages: a line down for each task, an arrow from the step at which a message was sent to the
--- one at which it was taken. Read Scene of rh_figure and Markup first.
--- x is the scene, n a note of a message, step the number of a step, code an event code, 0 where no message waits.
--- `-` of naturals stops at 0: of a short list all notes are the last ones (*last_of*).
-use Rattle.std.specs.Prelude.{ℕ, ◌+◌, ◌-◌, ◌*◌, ◌/◌, ◌==◌, nat_lt, max, ◌&&◌, ◌||◌, not, Bool, if◌then◌else◌, List, [], ◌∷◌, ◌++◌, length, take, drop, map, filter, find, codes, Option, Some, None, is_some}
+-- one at which it was taken, went back or vanished. Read Fates and Markup first.
+-- d is the desk, n a note of a message, a an arrow, step the number of a step. `-` of naturals stops at 0: an arrow's
+-- end and its words lie in the figure (*tip_x*, *words_x*).
+use Rattle.std.specs.Prelude.{ℕ, ◌+◌, ◌-◌, ◌*◌, ◌/◌, ◌==◌, nat_lt, max, ◌&&◌, ◌||◌, not, Bool, if◌then◌else◌, List, [], ◌∷◌, ◌++◌, length, take, filter, codes, true, false, is_some}
 use Rattle.std.specs.List.{concat, flat_map}
 use Rattle.std.specs.Fmt.{decimal}
-use Rattle.rh_defs.specs.declared.message.Letter.{Letter}
-use Rattle.rh_defs.specs.Messages.{Parcel, action_of, code_number}
 use Rattle.rh_defs.specs.Desk.{Desk, task_at}
 use Rattle.rh_defs.specs.Text.{action_name}
-use Rattle.rh_figure.specs.Scene.{Scene, sent_by, waiting}
 use Rattle.rh_figure.specs.Phrases.{Text, where_so, task_name}
-pub use Rattle.rh_sheet.specs.declared.note.Note.{Note}
+use Rattle.rh_sheet.specs.Fates.{Note, Fate, Queued, Taken, Held, Answered, Back, Vanished, is_queued}
 use Rattle.rh_sheet.specs.Markup.{words_text, path_text, point_text, stretch_text, svg_text}
-use Rattle.rh_sheet.specs.declared.sizes.TheConstants.{CHART_WIDTH, CHART_LEFT, CHART_TOP, CHART_SPREAD, BEAT, MOST_NOTES, NAME_Y, LIFE_TOP, LETTER_UNITS, ARROW_RISE, ARROW_STUB, LOOP_BOW, TIP_GAP, WORDS_ASIDE, WORDS_DOWN, STUB_ASIDE, STUB_DOWN, CHART_EDGE}
-
--- ---- what is kept of the last messages
-
-abbrev pub code_or_none : Option Parcel → ℕ
-code_or_none None = 0
-code_or_none (Some p) = code_number p.code
-
--- the event code of the message with the ref that waits, 0 where none does
-abbrev pub waiting_code : Scene → ℕ → ℕ
-waiting_code x ref = code_or_none (find (λ (p : Parcel). p.message.my_ref == ref) (waiting x))
-
--- a message that came back waits with this code
-abbrev pub back_code : ℕ
-back_code = 19
-
--- a step's number where something happened at it that had not happened yet
-abbrev pub since : Bool → ℕ → ℕ → ℕ
-since happened step known = if happened && known == 0 then step else known
-
--- the note after a step, by the code under which its message waits then
-abbrev pub followed : ℕ → ℕ → Note → Note
-followed step code n = record n {
-  taken = since (code == 0 || code == back_code) step n.taken;
-  back = since (code == back_code) step n.back;
-  ended = since (not (n.back == 0) && not (code == back_code)) step n.ended;
-}
-
--- the note of a letter that was sent at a step
-abbrev pub note_of : ℕ → Letter × ℕ → Note
-note_of step sent = record {
-  my_ref = sent.1;
-  from = sent.0.from;
-  to = sent.0.to;
-  action = action_of sent.0.body;
-  sent = step;
-  taken = 0;
-  back = 0;
-  ended = 0;
-}
-
-abbrev pub new_notes : ℕ → Option (Letter × ℕ) → List Note
-new_notes step None = []
-new_notes step (Some sent) = note_of step sent ∷ []
-
--- the last n of a list
-abbrev pub last_of : ℕ → List Note → List Note
-last_of n notes = drop (length notes - n) notes
-
--- the notes after a step
-abbrev pub noted : ℕ → Scene → List Note → List Note
-noted step x notes = last_of MOST_NOTES (
-    map (λ (n : Note). followed step (waiting_code x n.my_ref) n) notes
-    ++ new_notes step (sent_by x.before (task_at x.before.handle x.desk))
-    )
+use Rattle.rh_sheet.specs.declared.sizes.TheConstants.{CHART_WIDTH, CHART_LEFT, CHART_TOP, CHART_SPREAD, BEAT, NAME_Y, LIFE_TOP, LETTER_UNITS, ARROW_RISE, ARROW_STUB, LOOP_BOW, TIP_GAP, WORDS_ASIDE, WORDS_DOWN, STUB_ASIDE, STUB_DOWN, CHART_EDGE, VANISHES}
 
 -- ---- arrows
 
--- an arrow from one task to another between two steps, the second 0 where the message waits, with its words
+-- An arrow from one task to another between two steps, the second 0 where the message waits, with its words, the fate
+-- of the message on that way, and whether it wants an answer.
 pub record Arrow : Type 0 where
   pub start : ℕ
   pub stop : ℕ
   pub from : ℕ
   pub to : ℕ
   pub words : Text
+  pub fate : Fate
+  pub wants_answer : Bool
 
 abbrev pub note_words : Note → Text
 note_words n = concat (decimal n.my_ref ∷ codes " " ∷ action_name n.action ∷ [])
 
+-- The fate of a message on its way out. One that went back was taken before, or wasn't: then it went back where it came
+-- to.
+abbrev pub fate_out : Note → Fate
+fate_out n = if n.back == 0 then n.fate else if n.reached == n.back then Back else Taken
+
+-- the fate of a message on its way back
+abbrev pub fate_back : Fate → Fate
+fate_back Back = Queued
+fate_back fate = fate
+
 abbrev pub way_out : Note → Arrow
-way_out n = record { start = n.sent; stop = n.taken; from = n.from; to = n.to; words = note_words n }
+way_out n = record {
+  start = n.sent;
+  stop = n.reached;
+  from = n.from;
+  to = n.to;
+  words = note_words n;
+  fate = fate_out n;
+  wants_answer = n.wants_answer;
+}
 
 abbrev pub way_back : Note → Arrow
-way_back n =
-    record { start = n.back; stop = n.ended; from = n.to; to = n.from; words = note_words n ++ codes " back" }
+way_back n = record {
+  start = n.back;
+  stop = n.ended;
+  from = n.to;
+  to = n.from;
+  words = note_words n ++ codes " back";
+  fate = fate_back n.fate;
+  wants_answer = n.wants_answer;
+}
 
 -- the arrow of a message, and that of its way back
 abbrev pub arrows_of : Note → List Arrow
@@ -156,7 +127,7 @@ beat_text y s = words_text (codes "beat") 0 (y + ARROW_RISE) (decimal s)
 abbrev pub side_letters : Bool → Text
 side_letters west = if west then codes "h-" else codes "h"
 
--- a short arrow of a message that waits
+-- a short arrow, of a message that waits
 abbrev pub stub_way : ℕ → ℕ → Bool → Text
 stub_way x y west = point_text (codes "M") x (y + ARROW_RISE) ++ stretch_text (side_letters west) ARROW_STUB
 
@@ -175,39 +146,67 @@ tip_x x0 x1 = if nat_lt x1 x0 then x1 + TIP_GAP else x1 - TIP_GAP
 abbrev pub line_way : ℕ → ℕ → ℕ → ℕ → Text
 line_way x0 y0 x1 y1 = point_text (codes "M") x0 (y0 + ARROW_RISE) ++ point_text (codes "L") (tip_x x0 x1) y1
 
--- the way of an arrow between two lines; one that waits has no end
-abbrev pub message_way : Bool → ℕ → ℕ → ℕ → ℕ → Text
-message_way waits x0 y0 x1 y1 =
-    if waits then stub_way x0 y0 (nat_lt x1 x0)
+-- a place on the way from one to another, before its end
+abbrev pub part_way : ℕ → ℕ → ℕ
+part_way from to = ((100 - VANISHES) * from + VANISHES * to) / 100
+
+-- a straight arrow that doesn't come to the other line
+abbrev pub lost_way : ℕ → ℕ → ℕ → ℕ → Text
+lost_way x0 y0 x1 y1 =
+    point_text (codes "M") x0 (y0 + ARROW_RISE)
+    ++ point_text (codes "L") (part_way x0 x1) (part_way (y0 + ARROW_RISE) y1)
+
+-- the way of an arrow between two lines: a short one has no end
+abbrev pub message_way : Bool → Bool → ℕ → ℕ → ℕ → ℕ → Text
+message_way short lost x0 y0 x1 y1 =
+    if short then stub_way x0 y0 (nat_lt x1 x0)
     else if x0 == x1 then loop_way x0 y0 y1
+    else if lost then lost_way x0 y0 x1 y1
     else line_way x0 y0 x1 y1
 
-abbrev pub message_class : Bool → Bool → Text
-message_class waits now = concat (codes "msg" ∷ where_so waits (codes " waits") ∷ where_so now (codes " now") ∷ [])
+-- an arrow's class by the fate of its message
+abbrev pub fate_class : Fate → Text
+fate_class Queued = codes " waits"
+fate_class Held = codes " held"
+fate_class Back = codes " untaken"
+fate_class Vanished = codes " vanished"
+fate_class _ = []
+
+abbrev pub message_class : Fate → Bool → Text
+message_class fate now = concat (codes "msg" ∷ fate_class fate ∷ where_so now (codes " now") ∷ [])
 
 abbrev pub words_class : Bool → Bool → Text
 words_class west now = concat (codes "mname" ∷ where_so west (codes " west") ∷ where_so now (codes " now") ∷ [])
 
 -- how far from an arrow's beginning its words stand: to the side, and down
 abbrev pub words_aside : Bool → ℕ
-words_aside waits = if waits then STUB_ASIDE else WORDS_ASIDE
+words_aside short = if short then STUB_ASIDE else WORDS_ASIDE
 
 abbrev pub words_down : Bool → ℕ
-words_down waits = if waits then STUB_DOWN else WORDS_DOWN
+words_down short = if short then STUB_DOWN else WORDS_DOWN
 
 -- where they stand, from the left
 abbrev pub words_x : Bool → ℕ → ℕ → ℕ
-words_x waits x0 x1 = if nat_lt x1 x0 then x0 - words_aside waits else x0 + words_aside waits
+words_x short x0 x1 = if nat_lt x1 x0 then x0 - words_aside short else x0 + words_aside short
 
 -- the words of an arrow
 abbrev pub message_words : Bool → Bool → ℕ → ℕ → ℕ → Text → Text
-message_words waits now x0 y0 x1 t =
-    words_text (words_class (nat_lt x1 x0) now) (words_x waits x0 x1) (y0 + words_down waits) t
+message_words short now x0 y0 x1 t =
+    words_text (words_class (nat_lt x1 x0) now) (words_x short x0 x1) (y0 + words_down short) t
 
 -- ---- the chart
 
-abbrev pub arrow_waits : Arrow → Bool
-arrow_waits a = a.stop == 0
+abbrev pub is_lost : Fate → Bool
+is_lost Vanished = true
+is_lost _ = false
+
+abbrev pub is_answered : Fate → Bool
+is_answered Answered = true
+is_answered _ = false
+
+-- whether an arrow is a short one: the message waits, or vanished where it began
+abbrev pub is_short : Arrow → Bool
+is_short a = is_queued a.fate || is_lost a.fate && (a.from == a.to || a.start == a.stop)
 
 -- whether an arrow begins or ends at a step
 abbrev pub is_now : ℕ → Arrow → Bool
@@ -219,22 +218,56 @@ life_of d tasks steps h = life_text
 
 abbrev pub arrow_path : List ℕ → List ℕ → ℕ → Arrow → Text
 arrow_path tasks steps step a = path_text
-    (message_class (arrow_waits a) (is_now step a))
-    (message_way (arrow_waits a) (task_x tasks a.from) (step_y steps a.start) (task_x tasks a.to) (step_y steps a.stop))
+    (message_class a.fate (is_now step a))
+    (message_way (is_short a) (is_lost a.fate) (task_x tasks a.from) (step_y steps a.start) (task_x tasks a.to)
+    (step_y steps a.stop))
+
+-- what stands behind an arrow's words
+abbrev pub fate_words : Fate → Text
+fate_words Held = codes " held"
+fate_words Back = codes " not taken"
+fate_words Vanished = codes " vanished"
+fate_words _ = []
 
 abbrev pub arrow_words : List ℕ → List ℕ → ℕ → Arrow → Text
 arrow_words tasks steps step a = message_words
-    (arrow_waits a) (is_now step a) (task_x tasks a.from) (step_y steps a.start) (task_x tasks a.to) a.words
+    (is_short a) (is_now step a) (task_x tasks a.from) (step_y steps a.start) (task_x tasks a.to)
+    (a.words ++ fate_words a.fate)
 
--- when a message was taken, or that it waits
-abbrev pub stop_sentence : ℕ → Text
-stop_sentence stop = if stop == 0 then codes "waits. " else concat (codes "taken at " ∷ decimal stop ∷ codes ". " ∷ [])
+-- ---- what is read out
+
+-- what has become of a message, before the step at which it has
+abbrev pub fate_verb : Fate → Text
+fate_verb Queued = codes "waits"
+fate_verb Held = codes "held since "
+fate_verb Back = codes "not taken, back at "
+fate_verb Vanished = codes "vanished at "
+fate_verb _ = codes "taken at "
+
+-- and behind the step
+abbrev pub vanished_note : Text → Bool → Text
+vanished_note who wants_answer = concat (
+    codes ": " ∷ who ∷ codes " has died, and "
+    ∷ (if wants_answer then codes "nobody is left to take it" else codes "it wants no answer") ∷ []
+    )
+
+abbrev pub fate_note : Desk → Arrow → Text
+fate_note d a =
+    if is_lost a.fate then vanished_note (task_name d a.to) a.wants_answer
+    else where_so (is_answered a.fate) (codes ", and answered")
+
+-- the step at which it has, where a message doesn't wait
+abbrev pub stop_text : Arrow → Text
+stop_text a = where_so (not (is_queued a.fate)) (decimal a.stop)
+
+abbrev pub fate_sentence : Desk → Arrow → Text
+fate_sentence d a = concat (fate_verb a.fate ∷ stop_text a ∷ fate_note d a ∷ codes ". " ∷ [])
 
 -- an arrow as it is read out
 abbrev pub arrow_sentence : Desk → Arrow → Text
 arrow_sentence d a = concat (
     a.words ∷ codes " from " ∷ task_name d a.from ∷ codes " to " ∷ task_name d a.to ∷ codes ", sent at " ∷ decimal a.start
-    ∷ codes ", " ∷ stop_sentence a.stop ∷ []
+    ∷ codes ", " ∷ fate_sentence d a ∷ []
     )
 
 -- lines, steps, arrows, and their words upon all of it

@@ -1,5 +1,7 @@
 pub mod Arrows
 pub mod Chart
+pub mod FateLaws
+pub mod Fates
 pub mod Fixed
 pub mod Frames
 pub mod Markup

@@ -20,7 +20,7 @@ use Rattle.rh_sheet.specs.declared.sizes.TheConstants.{MOST_STEPS}
 use Rattle.rh_sheet.specs.Markup.{escape, step_link}
 use Rattle.rh_sheet.specs.Fixed.{style_text, signs_text, key_text}
 use Rattle.rh_sheet.specs.Pool.{grid_text}
-use Rattle.rh_sheet.specs.Chart.{Note, noted}
+use Rattle.rh_sheet.specs.Fates.{Note, noted}
 use Rattle.rh_sheet.specs.SheetSteps.{figure_text, step_open, step_text, remark_byte, remark_text, said_end, step_end}
 
 -- ---- head and foot

@@ -17,7 +17,8 @@ use Rattle.rh_sheet.specs.Markup.{escape, heading_text, change_item, step_link}
 use Rattle.rh_sheet.specs.Pool.{pool_figure}
 use Rattle.rh_sheet.specs.SheetAreas.{slot_figure, module_figure}
 use Rattle.rh_sheet.specs.Tables.{messages_table, transfers_table}
-use Rattle.rh_sheet.specs.Chart.{Note, chart_figure}
+use Rattle.rh_sheet.specs.Chart.{chart_figure}
+use Rattle.rh_sheet.specs.Fates.{Note}
 
 -- ---- the figure
 

@@ -6,7 +6,7 @@ use Rattle.rh_figure.specs.Phrases.{Text}
 use Rattle.rh_figure.specs.Scene.{Scene}
 use Rattle.rh_figure.specs.Map.{Stage, is_mark}
 use Rattle.rh_sheet.specs.Markup.{escape}
-use Rattle.rh_sheet.specs.Chart.{Note}
+use Rattle.rh_sheet.specs.Fates.{Note}
 use Rattle.rh_sheet.specs.SheetSteps.{remark_words, step_text}
 use Rattle.rh_sheet.specs.Sheet.{Walk, sheet_head, sheet_lines}
 use Rattle.rh_sheet.specs.WellFormed.{Spot, Words, Reader, read_byte}

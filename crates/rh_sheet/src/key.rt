@@ -35,6 +35,9 @@ given back by the command</li>
 <path class=\"slide\" d=\"M13 9h24\"/></svg>from where to where flex blocks slid</li>
 <li><svg viewBox=\"0 0 44 18\" aria-hidden=\"true\">\
 <path class=\"msg\" d=\"M1 4h34\"/>\
-<path class=\"msg waits\" d=\"M1 14h34\"/></svg>a message that was taken, and one that waits</li>
+<path class=\"msg waits\" d=\"M1 14h34\"/></svg>a message that was taken, and one that wasn't</li>
+<li><svg viewBox=\"0 0 44 18\" aria-hidden=\"true\">\
+<path class=\"msg held\" d=\"M1 5h20\"/>\
+<path class=\"msg vanished\" d=\"M1 12h34\"/></svg>one that is held, and one that vanished</li>
 </ul>
 ";

@@ -1,5 +1,6 @@
 //! Laws of sheets over the definitions alone, each the contract of a function with nothing to do.
 
+ghost use Rattle.rh_sheet.specs.FateLaws.{HasOneFate};
 ghost use Rattle.rh_sheet.specs.SheetLaws.{DrawsNoOrder, EscapesAll, LiesInside};
 ghost use Rattle.rh_sheet.specs.Slides.{SlideInSlots};
 ghost use Rattle.rh_sheet.specs.TextLaws.{SaysNoMarkup};
@@ -31,6 +32,12 @@ pub fn inside_law()
 /// At each call on a slot all flex blocks that slide do so the same way and equally far: one arrow says it of all.
 pub fn slide_law()
     ensures { SlideInSlots }
+{}
+
+/// Each of the last messages has one fate, and when it came to it is known: it is over just when the message is gone. A
+/// task that isn't live takes none, and none vanishes that a live task takes.
+pub fn fate_law()
+    ensures { HasOneFate }
 {}
 
 /// On two desks that differ in the order of queued messages to different tasks alone, the rest of a script has the same

@@ -11,5 +11,7 @@ pub mod sizes;
 pub mod style;
 
 pub use frame::Frame;
-pub use laws::{elements_law, escape_law, inside_law, markup_law, sheet_order_law, slide_law};
-pub use note::Note;
+pub use laws::{
+    elements_law, escape_law, fate_law, inside_law, markup_law, sheet_order_law, slide_law,
+};
+pub use note::{Fate, Note, Whereabouts};

@@ -1,6 +1,7 @@
 //! What the figures of a sheet are painted with.
 
-/// Patterns of the pool's squares, of words and of holes, and the heads of two kinds of arrow.
+/// Patterns of the pool's squares, of words and of holes, the heads of two kinds of arrow, and what ends an arrow whose
+/// message is held, or vanished.
 pub const SIGNS: &[u8] = b"\
 <pattern id=\"cells\" x=\"150\" width=\"32\" height=\"32\" patternUnits=\"userSpaceOnUse\">
 <path d=\"M32 0H0V32\"/>
@@ -16,5 +17,13 @@ pub const SIGNS: &[u8] = b"\
 </marker>
 <marker id=\"point\" viewBox=\"0 0 8 8\" refX=\"7\" refY=\"4\" markerWidth=\"5\" markerHeight=\"5\" orient=\"auto\">
 <path d=\"M0 0L8 4L0 8z\"/>
+</marker>
+<marker id=\"ring\" viewBox=\"0 0 12 12\" refX=\"6\" refY=\"6\" \
+markerWidth=\"12\" markerHeight=\"12\" markerUnits=\"userSpaceOnUse\">
+<path d=\"M6 1.5a4.5 4.5 0 1 0 0.01 0z\"/>
+</marker>
+<marker id=\"cross\" viewBox=\"0 0 12 12\" refX=\"6\" refY=\"6\" \
+markerWidth=\"12\" markerHeight=\"12\" markerUnits=\"userSpaceOnUse\">
+<path d=\"M1 1L11 11M11 1L1 11\"/>
 </marker>
 ";

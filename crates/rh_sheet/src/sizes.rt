@@ -154,6 +154,9 @@ pub const LOOP_BOW: u32 = 50;
 /// An arrow ends so far from the line that it goes to.
 pub const TIP_GAP: u32 = 3;
 
+/// The arrow of a message that vanished ends at so many hundredths of its way.
+pub const VANISHES: u32 = 84;
+
 /// From an arrow's beginning to its words: to the side, and down.
 pub const WORDS_ASIDE: u32 = 14;
 

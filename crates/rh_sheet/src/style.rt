@@ -122,17 +122,21 @@ text { font-size: 16px; fill: var(--text); }
 .life { stroke: var(--edge); }
 .beat { font-size: 12px; fill: var(--quiet); }
 .msg { fill: none; stroke: #6b747e; stroke-width: 1.25; marker-end: url(#tip); }
-.waits { stroke-dasharray: 5 4; }
+.waits, .untaken { stroke-dasharray: 5 4; }
 .msg.now { stroke: var(--changed); stroke-width: 2; marker-end: url(#point); }
+.msg.held { marker-end: url(#ring); }
+.msg.vanished { marker-end: url(#cross); }
 .mname { font-size: 12px; stroke: white; stroke-width: 4px; paint-order: stroke; }
 .mname.now { font-weight: bold; }
 .west { text-anchor: end; }
 
-/* patterns and arrowheads */
+/* patterns, and the ends of arrows */
 pattern path { fill: none; stroke: #cfd5db; }
 #stripes path { stroke: #69727c; stroke-width: 1.4; }
 #tip path { fill: #6b747e; }
 #point path { fill: var(--changed); }
+#ring path { fill: white; stroke: #6b747e; stroke-width: 2; }
+#cross path { stroke: var(--text); stroke-width: 3; }
 
 /* a link to a step shows that step alone, without how figures are read */
 @media screen {

@@ -2,12 +2,13 @@
 use Rattle.std.specs.Prelude.{◌≡◌, ◌≤◌, ◌<◌, ℕ, length}
 use Rattle.rh_defs.specs.Desk.{Desk}
 use Rattle.rh_elements.specs.declared.chart.Ends.{Ends}
+use Rattle.rh_elements.specs.declared.chart.Stroke.{Stroke}
 use Rattle.rh_figure.specs.Phrases.{Text}
 use Rattle.rh_pictures.specs.declared.sheet.chart.Chart.{Chart}
 use Rattle.rh_pictures.specs.declared.sheet.numbers.TheConstants.{MOST_IN_SET}
 use Rattle.rh_pictures.specs.declared.sheet.ways.MessageArrow.{MessageArrow}
-use Rattle.rh_pictures.specs.Ways.{arrows_seen}
-use Rattle.rh_sheet.specs.Chart.{Arrow, arrow_path, arrow_words, beat_text, chart_body, life_of, step_y, steps_in, task_x, tasks_in}
+use Rattle.rh_pictures.specs.Ways.{arrow_of, arrows_seen}
+use Rattle.rh_sheet.specs.Chart.{Arrow, arrow_path, arrow_words, beat_text, chart_body, is_now, is_short, life_of, step_y, steps_in, task_x, tasks_in}
 
 -- a chart has as few tasks and steps as that of the last messages
 pub record IsSmallChart (c : Chart) : Type 0 where
@@ -28,6 +29,10 @@ ends_of c w = record {
   x1 = task_x c.tasks.now w.to;
   y1 = step_y c.steps.now w.stop;
 }
+
+-- how an arrow is drawn
+abbrev pub stroke_of : Chart → MessageArrow → Stroke
+stroke_of c w = record { fate = w.fate; short = is_short (arrow_of w); now = is_now c.step (arrow_of w) }
 
 -- an arrow lies within the room that a chart has
 pub record AreNear (e : Ends) : Type 0 where

@@ -10,7 +10,7 @@ use Rattle.rh_figure.specs.Whole.{AreShared, read_of}
 use Rattle.rh_figure.specs.Share.{Share, IsShared}
 use Rattle.rh_figure.specs.Phrases.{Text}
 use Rattle.rh_figure.specs.Scene.{Before, Scene, is_still, marks_of, scene_of}
-use Rattle.rh_sheet.specs.Chart.{noted}
+use Rattle.rh_sheet.specs.Fates.{noted}
 use Rattle.rh_sheet.specs.declared.note.Note.{Note}
 use Rattle.rh_sheet.specs.Sheet.{Happened, Walk, happened_text, is_shown, opening, read_text, sheet_lines}
 use Rattle.rh_sheet.specs.SheetSteps.{step_text}

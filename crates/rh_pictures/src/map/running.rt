@@ -11,15 +11,17 @@ ghost use Rattle.rh_lines.specs.Flow.{unread};
 use crate::drawn::Drawn;
 use crate::map::mapper::Mapper;
 use rh_lines::{Sink, Source, WriteFailed};
-use rh_session::{PIECE, RunFault, Status, feed_all, feed_whole, run_fault};
+use rh_session::{Buffers, PIECE, RunFault, Status, feed_all, feed_whole, run_fault};
 
 /// Runs a script over what can be drawn, and writes its map: each step, or marked steps alone, each before it reads
 /// on. It gives up after 1,000,000 reads that gave bytes.
+#[inline(never)]
 pub fn map_script<D: Drawn, R: Source, W: Sink>(
     drawn: D,
     marked: bool,
     reader: &mut R,
     writer: &mut W,
+    buffers: &mut Buffers,
 ) -> Result<Status, RunFault>
     requires { (R.input reader.old).reads ≡ 0 }
 
@@ -51,7 +53,7 @@ pub fn map_script<D: Drawn, R: Source, W: Sink>(
 {
     let mut mapper = Mapper::new(drawn, marked);
     let mut piece = [0; PIECE];
-    match feed_all(&mut mapper, reader, &mut piece, writer) {
+    match feed_all(&mut mapper, reader, &mut piece, writer, &mut buffers.held) {
         Ok(()) => Ok(mapper.status()),
         Err(fault) => Err(run_fault(fault)),
     }

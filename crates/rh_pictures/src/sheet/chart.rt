@@ -4,12 +4,14 @@ ghost use Rattle.std.specs.Prelude.{◌≡◌, ◌≤◌, ◌+◌, ◌++◌, len
 ghost use Rattle.std.specs.List.{flat_map};
 ghost use Rattle.rh_lines.specs.declared.row.TheConstants.{ROW};
 ghost use Rattle.rh_pictures.specs.Inner.Charts.{AreNear, IsSmallChart, IsWholeChart, beat_in, body_of_chart, ends_of};
-ghost use Rattle.rh_pictures.specs.Inner.Charts.{life_in, path_in, words_in};
+ghost use Rattle.rh_pictures.specs.Inner.Charts.{life_in, path_in, stroke_of, words_in};
 ghost use Rattle.rh_pictures.specs.Ways.{arrow_of, arrows_seen};
 ghost use Rattle.rh_pictures.specs.declared.sheet.numbers.TheConstants.{MOST_IN_SET};
 ghost use Rattle.rh_sheet.specs.Chart.{arrow_sentence, chart_figure, chart_foot as foot_of, chart_of};
-ghost use Rattle.rh_sheet.specs.Chart.{is_now as is_now_of, step_y as step_y_of, stop_sentence, task_gap as gap_of};
-ghost use Rattle.rh_sheet.specs.Chart.{task_x as task_x_of};
+ghost use Rattle.rh_sheet.specs.Chart.{fate_note as note_of_fate, fate_sentence, fate_verb as verb_of_fate};
+ghost use Rattle.rh_sheet.specs.Chart.{is_now as is_now_of, step_y as step_y_of, stop_text, task_gap as gap_of};
+ghost use Rattle.rh_sheet.specs.Chart.{task_x as task_x_of, vanished_note};
+ghost use Rattle.rh_map.specs.MapTasks.{who_text};
 ghost use Rattle.rh_sheet.specs.Markup.{escape};
 ghost use Rattle.rh_sheet.specs.declared.sizes.TheConstants.{MOST_NOTES};
 
@@ -17,14 +19,14 @@ use crate::sheet::ways::{MessageArrow, steps_in, tasks_in, ways_of};
 use crate::who::who_of;
 use rh_defs::Handle;
 use rh_elements::{
-    Ends, place_among, print_beat, print_described, print_figure_end, print_figure_open,
-    print_life, print_message_arrow, print_message_words, put_escaped,
+    Ends, Stroke, is_queued, place_among, print_beat, print_described, print_figure_end,
+    print_figure_open, print_life, print_message_arrow, print_message_words, put_escaped,
 };
 use rh_lines::{Pen, Row};
-use rh_map::add_who;
+use rh_map::{Who, add_who};
 use rh_scene::{Sight, task_with};
-use rh_sheet::Note;
 use rh_sheet::sizes::{BEAT, CHART_EDGE, CHART_LEFT, CHART_SPREAD, CHART_TOP, CHART_WIDTH};
+use rh_sheet::{Fate, Note};
 
 /// A chart as it stands at a step: its arrows, the handles of the tasks between which they go, and the steps at which
 /// they begin or end.
@@ -93,21 +95,72 @@ fn print_sentence<S: Sight, P: Pen>(sight: &S, way: &MessageArrow, pen: &mut P)
     row.text(b", sent at ");
     row.decimal(way.start);
     row.text(b", ");
-    add_stop(&mut row, way.stop);
+    add_fate(sight, &mut row, way);
     put_escaped(row.as_slice(), pen);
 }
 
-/// Adds when a message was taken, or that it waits.
-fn add_stop(row: &mut Row, stop: u32)
-    requires { length row.old + 22 ≤ ROW }
-    ensures { row.new ≡ row.old ++ stop_sentence stop }
+/// Adds what has become of a message, and at which step.
+fn add_fate<S: Sight>(sight: &S, row: &mut Row, way: &MessageArrow)
+    requires { length row.old + 104 ≤ ROW }
+    ensures { row.new ≡ row.old ++ fate_sentence (S.desk sight.now) (arrow_of way.now) }
 {
-    if stop == 0 {
-        row.text(b"waits. ");
+    row.text(fate_verb(way.fate));
+    add_stop(row, way);
+    add_fate_note(sight, row, way);
+    row.text(b". ");
+}
+
+/// What has become of a message, before the step.
+fn fate_verb(fate: Fate) -> &'static [u8]
+    ensures value { result.now ≡ verb_of_fate fate }
+    ensures few { length result.now ≤ 19 }
+{
+    match fate {
+        Fate::Queued => b"waits",
+        Fate::Held => b"held since ",
+        Fate::Back => b"not taken, back at ",
+        Fate::Vanished => b"vanished at ",
+        _ => b"taken at ",
+    }
+}
+
+/// Adds the step at which it has, where a message doesn't wait.
+fn add_stop(row: &mut Row, way: &MessageArrow)
+    requires { length row.old + 11 ≤ ROW }
+    ensures value { row.new ≡ row.old ++ stop_text (arrow_of way.now) }
+    ensures few { length row.new ≤ length row.old + 11 }
+{
+    if !is_queued(way.fate) {
+        row.decimal(way.stop);
+    }
+}
+
+/// Adds why a message vanished, or that it was answered.
+fn add_fate_note<S: Sight>(sight: &S, row: &mut Row, way: &MessageArrow)
+    requires { length row.old + 62 ≤ ROW }
+    ensures value { row.new ≡ row.old ++ note_of_fate (S.desk sight.now) (arrow_of way.now) }
+    ensures few { length row.new ≤ length row.old + 62 }
+{
+    match way.fate {
+        Fate::Vanished => add_vanished(&who_of(sight, Handle(way.to)), way.wants_answer, row),
+        Fate::Answered => row.text(b", and answered"),
+        _ => {}
+    }
+}
+
+/// Adds who didn't take a message, and why nobody else has it.
+fn add_vanished(who: &Who<'_>, wants_answer: bool, row: &mut Row)
+    requires { length row.old + 62 ≤ ROW }
+    ensures value { row.new ≡ row.old ++ vanished_note (who_text who.now) wants_answer }
+    ensures few { length row.new ≤ length row.old + 62 }
+{
+    row.text(b": ");
+    add_who(row, who);
+    row.text(b" has died, and ");
+    if wants_answer {
+        row.text(b"nobody is left to take it");
     } else {
-        row.text(b"taken at ");
-        row.decimal(stop);
-        row.text(b". ");
+        row.text(b"it wants no answer");
     }
 }
 
@@ -171,7 +224,7 @@ fn print_arrow<P: Pen>(chart: &Chart<'_>, way: &MessageArrow, pen: &mut P)
     requires { IsSmallChart chart.now }
     ensures { P.offered pen.new ≡ P.offered pen.old ++ path_in chart.now (arrow_of way.now) }
 {
-    print_message_arrow(way.stop == 0, chart.is_now(way), chart.ends(way), pen);
+    print_message_arrow(chart.stroke(way), chart.ends(way), pen);
 }
 
 /// Writes the words of all arrows.
@@ -189,14 +242,8 @@ fn print_words_of<P: Pen>(chart: &Chart<'_>, way: &MessageArrow, pen: &mut P)
     requires { IsSmallChart chart.now }
     ensures { P.offered pen.new ≡ P.offered pen.old ++ words_in chart.now (arrow_of way.now) }
 {
-    let words = way.words();
-    print_message_words(
-        way.stop == 0,
-        chart.is_now(way),
-        chart.ends(way),
-        words.as_slice(),
-        pen,
-    );
+    let words = way.drawn_words();
+    print_message_words(chart.stroke(way), chart.ends(way), words.as_slice(), pen);
 }
 
 impl<'a> Chart<'a> {
@@ -248,6 +295,17 @@ impl<'a> Chart<'a> {
             y0: self.step_y(way.start),
             x1: self.task_x(way.to),
             y1: self.step_y(way.stop),
+        }
+    }
+
+    /// How an arrow is drawn.
+    fn stroke(&self, way: &MessageArrow) -> Stroke
+        ensures { result ≡ stroke_of self.now way.now }
+    {
+        Stroke {
+            fate: way.fate,
+            short: way.is_short(),
+            now: self.is_now(way),
         }
     }
 

@@ -1,21 +1,24 @@
 //! What is kept of the last messages, step by step.
 
-ghost use Rattle.std.specs.Prelude.{◌≡◌, ◌≤◌, ◌∷◌, ◌++◌, [], length, map};
-ghost use Rattle.rh_pictures.specs.Inner.Notes.{code_among};
-ghost use Rattle.rh_figure.specs.Scene.{Before, Marks, scene_of};
+ghost use Rattle.std.specs.Prelude.{◌≡◌, ◌≤◌, ◌∷◌, ◌++◌, [], is_some, length, map};
+ghost use Rattle.std.specs.List.{list_any};
+ghost use Rattle.rh_defs.specs.Desk.{task_at};
+ghost use Rattle.rh_pictures.specs.Inner.Notes.{code_among, holds_as, seen_among};
+ghost use Rattle.rh_figure.specs.Scene.{Before, Marks, scene_of, sent_by as sent_by_task};
 ghost use Rattle.rh_figure.specs.Share.{Share};
-ghost use Rattle.rh_sheet.specs.Chart.{followed as note_after, last_of, note_of, noted};
+ghost use Rattle.rh_sheet.specs.Fates.{answered_by, followed as note_after, last_of, next_taker as taker_of};
+ghost use Rattle.rh_sheet.specs.Fates.{note_of, noted};
 ghost use Rattle.rh_sheet.specs.declared.sizes.TheConstants.{MOST_NOTES};
 ghost use Rattle.rh_scene.specs.SightMessages.{message_items};
 ghost use Rattle.rh_scene.specs.Seen.{letter_seen};
 ghost use Rattle.rh_scene.specs.Steps.{IsSender};
 
 use arrayvec::ArrayVec;
-use rh_defs::{Letter, MessageItem, Ref};
-use rh_elements::followed;
-use rh_scene::{Messages, Sight, StepSender, sent_by};
-use rh_sheet::Note;
+use rh_defs::{EventCode, Handle, Letter, MessageItem, Ref};
+use rh_elements::{followed, is_queued};
+use rh_scene::{Messages, Sight, StepSender, sent_by, task_with};
 use rh_sheet::sizes::MOST_NOTES;
+use rh_sheet::{Fate, Note, Whereabouts};
 
 /// What is kept of the last messages, the oldest first.
 pub type Notes = ArrayVec<Note, MOST_NOTES>;
@@ -32,32 +35,104 @@ pub fn note_step<S: Sight>(
     ensures { (s : Share) (b : Before) (m : Marks) → IsSender sender b → notes.new.items
         ≡ noted number (scene_of (S.desk sight.now) s b m) notes.old.items }
 {
-    follow_messages(sight, number, messages, notes);
+    let answered = answered_at(sight, &sender);
+    follow_messages(sight, number, answered, messages, notes);
     if let Some(sent) = sent_by(sight, sender) {
         keep_note(new_note(number, sent), notes);
     }
 }
 
-/// Notes what has become of each of the last messages. The list of those that are live is made only where one is noted.
-fn follow_messages<S: Sight>(sight: &S, number: u32, messages: &mut Messages, notes: &mut Notes)
-    ensures notes { notes.new.items ≡ map (λ n. note_after number (code_among n.my_ref (message_items
-        (S.desk sight.now))) n) notes.old.items }
+/// The ref that the letter of a step answers, by who may have sent one: 0 for none.
+fn answered_at<S: Sight>(sight: &S, sender: &StepSender) -> Ref
+    ensures { (b : Before) → IsSender sender.now b → result
+        ≡ answered_by (sent_by_task b (task_at b.handle (S.desk sight.now))) }
+{
+    match sent_by(sight, *sender) {
+        Some((letter, _)) => letter.your_ref,
+        None => Ref(0),
+    }
+}
+
+/// Notes what has become of each of the last messages at a step whose letter answers one. The list of those that are
+/// live is made only where one is noted.
+fn follow_messages<S: Sight>(
+    sight: &S,
+    number: u32,
+    answered: Ref,
+    messages: &mut Messages,
+    notes: &mut Notes,
+)
+    ensures notes { notes.new.items ≡ map (λ n. note_after number (seen_among (S.desk sight.now) answered (message_items
+        (S.desk sight.now)) n) n) notes.old.items }
     ensures few { length notes.old.items ≤ MOST_NOTES }
 {
     if notes.is_empty() {
         return;
     }
     sight.messages(messages);
-    follow_notes(number, messages, notes);
+    follow_notes(sight, number, answered, messages, notes);
 }
 
 /// Notes what has become of each of the last messages, of which these are live behind the step.
-fn follow_notes(number: u32, messages: &[MessageItem], notes: &mut [Note])
-    ensures { notes.new ≡ map (λ n. note_after number (code_among n.my_ref messages.now) n) notes.old }
+fn follow_notes<S: Sight>(
+    sight: &S,
+    number: u32,
+    answered: Ref,
+    messages: &[MessageItem],
+    notes: &mut [Note],
+)
+    ensures { notes.new ≡ map (λ n. note_after number (seen_among (S.desk sight.now) answered messages.now n) n)
+        notes.old }
 {
     for note in notes.iter_mut() {
-        *note = followed(number, waiting_code(messages, Ref(note.my_ref)), *note);
+        let seen = whereabouts(sight, answered, messages, note);
+        *note = followed(number, seen, *note);
     }
+}
+
+/// Where a message is behind the step.
+fn whereabouts<S: Sight>(
+    sight: &S,
+    answered: Ref,
+    messages: &[MessageItem],
+    note: &Note,
+) -> Whereabouts
+    ensures { result ≡ seen_among (S.desk sight.now) answered messages.now note.now }
+{
+    let my_ref = Ref(note.my_ref);
+    Whereabouts {
+        code: waiting_code(messages, my_ref),
+        held: is_held(messages, my_ref),
+        answered: my_ref == answered,
+        live: is_live(sight, next_taker(note)),
+    }
+}
+
+/// The task that takes a message next, where nobody answers it.
+fn next_taker(note: &Note) -> Handle
+    ensures { result ≡ taker_of note.now }
+{
+    if is_queued(note.fate) {
+        Handle(note.to)
+    } else {
+        Handle(note.from)
+    }
+}
+
+/// Whether a task with the handle is live.
+fn is_live<S: Sight>(sight: &S, handle: Handle) -> bool
+    ensures { result ≡ is_some (task_at handle (S.desk sight.now)) }
+{
+    task_with(sight, handle).is_some()
+}
+
+/// Whether a task holds the message with the ref.
+fn is_held(messages: &[MessageItem], my_ref: Ref) -> bool
+    ensures { result ≡ list_any (holds_as my_ref) messages.now }
+{
+    messages
+        .iter()
+        .any(|message| message.held && message.my_ref == my_ref)
 }
 
 /// The event code of the message with the ref that waits, 0 where none does.
@@ -92,8 +167,10 @@ fn new_note(number: u32, sent: (&Letter, Ref)) -> Note
         from: letter.from.0,
         to: letter.to.0,
         action: letter.body.action(),
+        wants_answer: matches!(letter.code, EventCode::Recorded),
+        fate: Fate::Queued,
         sent: number,
-        taken: 0,
+        reached: 0,
         back: 0,
         ended: 0,
     }

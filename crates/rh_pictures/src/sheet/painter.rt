@@ -17,7 +17,7 @@ ghost use Rattle.rh_pictures.specs.PaintedWalks.{IsFirstPainted, walk_in};
 ghost use Rattle.rh_pictures.specs.Inner.Heads.{head_of};
 ghost use Rattle.rh_pictures.specs.Inner.PaintedSteps.{DrewLine, DrewRest, LeftStep, TookStep, WroteStep, happened_at};
 ghost use Rattle.rh_session.specs.Outcome.{status_of};
-ghost use Rattle.rh_sheet.specs.Chart.{noted};
+ghost use Rattle.rh_sheet.specs.Fates.{noted};
 ghost use Rattle.rh_sheet.specs.Sheet.{is_shown, opening, sheet_end, sheet_head};
 ghost use Rattle.rh_sheet.specs.SheetSteps.{step_text};
 ghost use Rattle.rh_sheet.specs.declared.sizes.TheConstants.{MOST_STEPS};

@@ -10,16 +10,18 @@ ghost use Rattle.rh_pictures.specs.Painted.{Painted, PaintedSoFar, PaintedUntil}
 use crate::drawn::Drawn;
 use crate::sheet::painter::Painter;
 use rh_lines::{Sink, Source, WriteFailed};
-use rh_session::{PIECE, RunFault, Status, feed_all, feed_whole, run_fault};
+use rh_session::{Buffers, PIECE, RunFault, Status, feed_all, feed_whole, run_fault};
 
 /// Runs a script with a name over what can be drawn, and writes its sheet: its beginning, and each step, or marked
 /// steps alone, each before it reads on. It gives up after 1,000,000 reads that gave bytes.
+#[inline(never)]
 pub fn paint_script<D: Drawn, R: Source, W: Sink>(
     drawn: D,
     marked: bool,
     name: &[u8],
     reader: &mut R,
     writer: &mut W,
+    buffers: &mut Buffers,
 ) -> Result<Status, RunFault>
     requires { (R.input reader.old).reads ≡ 0 }
 
@@ -55,7 +57,7 @@ pub fn paint_script<D: Drawn, R: Source, W: Sink>(
         return Err(RunFault::WriteFailed);
     }
     let mut piece = [0; PIECE];
-    match feed_all(&mut painter, reader, &mut piece, writer) {
+    match feed_all(&mut painter, reader, &mut piece, writer, &mut buffers.held) {
         Ok(()) => Ok(painter.status()),
         Err(fault) => Err(run_fault(fault)),
     }

@@ -1,27 +1,30 @@
 //! The arrows of a chart: of each message, and of its way back.
 
-ghost use Rattle.std.specs.Prelude.{◌≡◌, ◌≤◌, ◌<◌, ◌+◌, ◌∷◌, [], length};
+ghost use Rattle.std.specs.Prelude.{◌≡◌, ◌≤◌, ◌<◌, ◌+◌, ◌∷◌, ◌++◌, [], length};
 ghost use Rattle.rh_pictures.specs.Ways.{arrow_of, arrows_seen, way_words};
 ghost use Rattle.rh_pictures.specs.Inner.WaySteps.{with_step};
 ghost use Rattle.rh_pictures.specs.declared.sheet.numbers.TheConstants.{MOST_IN_SET};
 ghost use Rattle.rh_pictures.specs.declared.sheet.ways.TheConstants.{MOST_WAYS};
-ghost use Rattle.rh_sheet.specs.Chart.{arrows, steps_in as steps_of, tasks_in as tasks_of, way_back as arrow_back};
+ghost use Rattle.rh_sheet.specs.Chart.{arrows, fate_back as fate_back_of, fate_out as fate_out_of};
+ghost use Rattle.rh_sheet.specs.Chart.{fate_words as words_of_fate, is_short as is_short_arrow};
+ghost use Rattle.rh_sheet.specs.Chart.{steps_in as steps_of, tasks_in as tasks_of, way_back as arrow_back};
 ghost use Rattle.rh_sheet.specs.Chart.{way_out as arrow_out};
 ghost use Rattle.rh_sheet.specs.declared.sizes.TheConstants.{MOST_NOTES};
 
 use crate::sheet::numbers::{NumberSet, put_number};
 use arrayvec::ArrayVec;
 use rh_defs::Action;
+use rh_elements::{is_lost, is_queued};
 use rh_lines::Row;
 use rh_map::action_name;
-use rh_sheet::Note;
 use rh_sheet::sizes::MOST_NOTES;
+use rh_sheet::{Fate, Note};
 
 /// A chart has at most so many arrows.
 pub const MOST_WAYS: usize = 2 * MOST_NOTES;
 
 /// An arrow of a chart: a message, by its ref, on its way from a task to a task, by their handles, or on its way back,
-/// between two steps, of which the second is 0 where it waits.
+/// between two steps, of which the second is 0 where it waits; its fate on that way, and whether it wants an answer.
 #[derive(Clone, Copy)]
 pub struct MessageArrow {
     pub start: u32,
@@ -31,6 +34,8 @@ pub struct MessageArrow {
     pub my_ref: u32,
     pub action: Action,
     pub is_back: bool,
+    pub fate: Fate,
+    pub wants_answer: bool,
 }
 
 impl Default for MessageArrow {
@@ -44,6 +49,8 @@ impl Default for MessageArrow {
             my_ref: 0,
             action: Action::DataSave,
             is_back: false,
+            fate: Fate::Queued,
+            wants_answer: false,
         }
     }
 }
@@ -66,18 +73,43 @@ pub fn ways_of(notes: &[Note]) -> Ways
     ways
 }
 
+/// The fate of a message on its way out: of one that went back, whether it was taken before.
+fn fate_out(note: &Note) -> Fate
+    ensures { result ≡ fate_out_of note.now }
+{
+    if note.back == 0 {
+        note.fate
+    } else if note.reached == note.back {
+        Fate::Back
+    } else {
+        Fate::Taken
+    }
+}
+
+/// The fate of a message on its way back.
+fn fate_back(fate: Fate) -> Fate
+    ensures { result ≡ fate_back_of fate }
+{
+    match fate {
+        Fate::Back => Fate::Queued,
+        _ => fate,
+    }
+}
+
 /// A message on its way out.
 fn way_out(note: &Note) -> MessageArrow
     ensures { arrow_of result ≡ arrow_out note.now }
 {
     MessageArrow {
         start: note.sent,
-        stop: note.taken,
+        stop: note.reached,
         from: note.from,
         to: note.to,
         my_ref: note.my_ref,
         action: note.action,
         is_back: false,
+        fate: fate_out(note),
+        wants_answer: note.wants_answer,
     }
 }
 
@@ -93,6 +125,8 @@ fn way_back(note: &Note) -> MessageArrow
         my_ref: note.my_ref,
         action: note.action,
         is_back: true,
+        fate: fate_back(note.fate),
+        wants_answer: note.wants_answer,
     }
 }
 
@@ -110,6 +144,36 @@ impl MessageArrow {
             row.text(b" back");
         }
         row
+    }
+
+    /// Those words, and what has become of the message where the arrow alone doesn't tell.
+    pub fn drawn_words(&self) -> Row
+        ensures { result ≡ way_words self.now ++ words_of_fate self.now.fate }
+    {
+        let mut row = self.words();
+        row.text(fate_words(self.fate));
+        row
+    }
+
+    /// Whether it is a short arrow: its message waits, or vanished where it began.
+    pub fn is_short(&self) -> bool
+        ensures { result ≡ is_short_arrow (arrow_of self.now) }
+    {
+        is_queued(self.fate)
+            || is_lost(self.fate) && (self.from == self.to || self.start == self.stop)
+    }
+}
+
+/// What stands behind an arrow's words by the fate of its message.
+fn fate_words(fate: Fate) -> &'static [u8]
+    ensures value { result.now ≡ words_of_fate fate }
+    ensures few { length result.now ≤ 10 }
+{
+    match fate {
+        Fate::Held => b" held",
+        Fate::Back => b" not taken",
+        Fate::Vanished => b" vanished",
+        _ => b"",
     }
 }
 

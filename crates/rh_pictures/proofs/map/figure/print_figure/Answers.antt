@@ -1,10 +1,10 @@
-use Rattle.rh_pictures.proofs.Common.{[], ◌∷◌, ◌++◌, codes, ap, sym, refl, shown_lines, scene_at, area_part, lines_of_slots}
+use Rattle.rh_pictures.proofs.Common.{[], ◌∷◌, ◌++◌, codes, ap, sym, refl, shown_lines, scene_at, area_part, lines_of_slots, offered_as}
 use Rattle.rh_figure.specs.Changes.{changes}
 use Rattle.rh_figure.specs.Figure.{area_panels}
 use Rattle.rh_pictures.specs.Parts.{letter_part, lines_of_module, pool_part, transfer_part}
 use Rattle.rh_pictures.specs.Inner.PartsBehind.{change_part}
 use Rattle.rh_pictures.proofs.FigureLemmas.{behind_areas, behind_changes, behind_module, figure-parts, panels-shown}
-use Rattle.rh_pictures.proofs.PlaceLemmas.{lines_then, offered_line, offered_as, shown-each}
+use Rattle.rh_pictures.proofs.PlaceLemmas.{lines_then, offered_line, shown-each}
 use Rattle.rh_pictures.proofs.map.figure.print_figure.Goals as goal
 
 pub returns : goal.returns

@@ -1,8 +1,9 @@
-use Rattle.rh_pictures.proofs.Common.{◌≡◌, true, false, ◌∷◌, [], ap, sym, ◌∙◌, map, refl, codes, letterbox_line, scene_at, shown_lines}
+use Rattle.rh_pictures.proofs.Common.{◌≡◌, true, false, ◌∷◌, [], ap, sym, ◌∙◌, map, refl, codes, letterbox_line, scene_at, shown_lines, offered_as}
+use Rattle.rh_pictures.proofs.Common.{offered_none}
 use Rattle.rh_figure.specs.Figure.{letterboxes}
 use Rattle.rh_pictures.proofs.PostLemmas.{boxes-told}
 use Rattle.rh_pictures.proofs.UnderLemmas.{is_some, under-none, under-some}
-use Rattle.rh_pictures.proofs.PlaceLemmas.{lines_then, offered_as, offered_line, offered_none, shown-each}
+use Rattle.rh_pictures.proofs.PlaceLemmas.{lines_then, offered_line, shown-each}
 use Rattle.rh_pictures.proofs.map.letters.print_letter_part.Goals as goal
 
 pub returns-then-not-has_letterboxes : goal.returns-then-not-has_letterboxes

@@ -1,5 +1,5 @@
 use Rattle.rh_pictures.proofs.Common.{ℕ, ◌++◌, [], ◌∷◌, length, ap, refl, ◌∙◌, arith, codes, module_pages, shown_cards, heading_line, Text, area_rows, AreaOf}
-use Rattle.rh_pictures.proofs.Common.{shown_lines, scene_at, card_lines}
+use Rattle.rh_pictures.proofs.Common.{shown_lines, scene_at, card_lines, offered_as}
 use Rattle.rh_figure.specs.Cards.{module_cards}
 use Rattle.rh_figure.specs.Figure.{module_drawing}
 use Rattle.rh_figure.specs.Map.{name_with_mark}
@@ -8,7 +8,7 @@ use Rattle.rh_scene.specs.declared.sight.PagesOf.TheVariants as pages
 use Rattle.rh_pictures.proofs.CardLemmas.{cards-lined}
 use Rattle.rh_pictures.proofs.DrawingLemmas.{rows-are}
 use Rattle.rh_pictures.proofs.PageLemmas.{owned, owned-few, seen-fixed}
-use Rattle.rh_pictures.proofs.PlaceLemmas.{lines_then, offered_line, offered_as}
+use Rattle.rh_pictures.proofs.PlaceLemmas.{lines_then, offered_line}
 use Rattle.rh_pictures.proofs.map.modules.print_module_part.Goals as goal
 
 abbrev heading : ℕ → Text

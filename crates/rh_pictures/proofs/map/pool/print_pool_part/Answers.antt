@@ -1,8 +1,8 @@
-use Rattle.rh_pictures.proofs.Common.{[], ◌∷◌, ap, ap₂, sym, ◌∙◌, figure, shown_lines, scene_at}
+use Rattle.rh_pictures.proofs.Common.{[], ◌∷◌, ap, ap₂, sym, ◌∙◌, figure, shown_lines, scene_at, offered_as}
 use Rattle.rh_figure.specs.Map.{pool_heading, pool_line}
 use Rattle.rh_figure.specs.Rows.{marks_rows, pool_rows}
 use Rattle.rh_pictures.proofs.FigureLemmas.{pool-heading, pool-rows}
-use Rattle.rh_pictures.proofs.PlaceLemmas.{lines_then, offered_line, offered_as}
+use Rattle.rh_pictures.proofs.PlaceLemmas.{lines_then, offered_line}
 use Rattle.rh_pictures.proofs.map.pool.print_pool_part.Goals as goal
 
 pub returns : goal.returns

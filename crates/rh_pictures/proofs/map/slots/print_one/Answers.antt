@@ -1,10 +1,10 @@
 use Rattle.rh_pictures.proofs.Common.{◌≡◌, Bool, true, false, [], ◌∷◌, Some, None, ap, sym, ◌∙◌, arith, if◌then◌else◌, slice_get_within, shown_lines}
-use Rattle.rh_pictures.proofs.Common.{IsTaskSeen, scene_at}
+use Rattle.rh_pictures.proofs.Common.{IsTaskSeen, scene_at, offered_as}
 use Rattle.rh_figure.specs.Figure.{is_drawn, slot_drawing}
 use Rattle.rh_figure.specs.Map.{drawing_lines}
 use Rattle.rh_pictures.specs.Inner.PartsBehind.{slot_heading}
 use Rattle.rh_pictures.proofs.DrawingLemmas.{seen-same, slot-stands}
-use Rattle.rh_pictures.proofs.PlaceLemmas.{lines_then, offered_as}
+use Rattle.rh_pictures.proofs.PlaceLemmas.{lines_then}
 use Rattle.rh_pictures.proofs.map.slots.print_one.Goals as goal
 
 pub print_heading-requires : goal.print_heading-requires

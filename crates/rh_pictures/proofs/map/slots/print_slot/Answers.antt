@@ -1,6 +1,6 @@
 use Rattle.rh_pictures.proofs.Common.{◌≡◌, ◌+◌, ◌++◌, Some, length, ap, sym, ◌∙◌, refl, arith, option_map, map-append, slice_get_within, Task, flex_start, Card}
 use Rattle.rh_pictures.proofs.Common.{List, Option, slice_get, flex_cards, shown_cards, card_line, area_rows, Scene, SlotOf, shown_lines, heap_seen, scene_at}
-use Rattle.rh_pictures.proofs.Common.{at-some, card_lines}
+use Rattle.rh_pictures.proofs.Common.{at-some, card_lines, offered_as}
 use Rattle.rh_defs.specs.Heap.{first_place}
 use Rattle.rh_defs.specs.Slot.{heap_start}
 use Rattle.rh_figure.specs.Cards.{cards_from, heap_cards}
@@ -15,7 +15,7 @@ use Rattle.rh_pictures.specs.Bands.{card_of_task}
 use Rattle.rh_pictures.proofs.CardLemmas.{cards-lined}
 use Rattle.rh_pictures.proofs.DrawingLemmas.{rows-are}
 use Rattle.rh_pictures.proofs.PageLemmas.{owned, owned-few, seen-slot}
-use Rattle.rh_pictures.proofs.PlaceLemmas.{lines_then, offered_as}
+use Rattle.rh_pictures.proofs.PlaceLemmas.{lines_then}
 use Rattle.rh_pictures.proofs.map.slots.print_slot.Goals as goal
 
 pub blocks-requires : goal.blocks-requires

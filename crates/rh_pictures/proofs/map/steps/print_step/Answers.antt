@@ -1,6 +1,7 @@
 use Rattle.rh_pictures.proofs.Common.{◌++◌, List, Bool, [], ◌∷◌, ap, sym, refl, if◌then◌else◌, codes, ended, figure, Text, Scene, shown_lines, scene_at}
+use Rattle.rh_pictures.proofs.Common.{offered_as}
 use Rattle.rh_figure.specs.Map.{figure_lines, reply_lines, step_line}
-use Rattle.rh_pictures.proofs.PlaceLemmas.{lines_then, offered_line, offered_as}
+use Rattle.rh_pictures.proofs.PlaceLemmas.{lines_then, offered_line}
 use Rattle.rh_pictures.proofs.map.steps.print_step.Goals as goal
 
 -- what stands below the reply

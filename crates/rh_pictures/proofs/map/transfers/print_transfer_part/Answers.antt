@@ -1,8 +1,9 @@
-use Rattle.rh_pictures.proofs.Common.{◌≡◌, true, false, [], ◌∷◌, map, ap, sym, refl, ◌∙◌, codes, ins_of, outs_of, shown_lines, transfer_line}
+use Rattle.rh_pictures.proofs.Common.{◌≡◌, true, false, [], ◌∷◌, map, ap, sym, refl, ◌∙◌, codes, ins_of, outs_of, shown_lines, transfer_line, offered_as}
+use Rattle.rh_pictures.proofs.Common.{offered_none}
 use Rattle.rh_figure.specs.Figure.{transfers_of}
 use Rattle.rh_pictures.proofs.TransferLemmas.{sides-some}
 use Rattle.rh_pictures.proofs.UnderLemmas.{is_some, under-none, under-some}
-use Rattle.rh_pictures.proofs.PlaceLemmas.{lines_then, offered_as, offered_line, offered_none, shown-each}
+use Rattle.rh_pictures.proofs.PlaceLemmas.{lines_then, offered_line, shown-each}
 use Rattle.rh_pictures.proofs.map.transfers.print_transfer_part.Goals as goal
 
 pub returns-then-not-has_transfers : goal.returns-then-not-has_transfers

@@ -1,6 +1,6 @@
 use Rattle.rh_pictures.proofs.Common.{◌≡◌, ◌++◌, ap, ap₂, ◌∙◌, codes, decimal, Text, task_name, escape, offered_as}
-use Rattle.rh_sheet.specs.Chart.{stop_sentence}
-use Rattle.rh_pictures.specs.Ways.{way_words}
+use Rattle.rh_sheet.specs.Chart.{fate_sentence}
+use Rattle.rh_pictures.specs.Ways.{arrow_of, way_words}
 use Rattle.rh_pictures.proofs.ChartLemmas.{nine-parts}
 use Rattle.rh_pictures.proofs.sheet.chart.print_sentence.Goals as goal
 
@@ -25,7 +25,8 @@ returns g c =
     let e5 : c.text-3.new.self ≡ t5 = c.text-3.ensures ∙ ap (λ z. z ++ codes ", sent at ") e4 in
     let e6 : c.decimal.new.self ≡ t6 = c.decimal.ensures.value ∙ ap (λ z. z ++ decimal w.start) e5 in
     let e7 : c.text-4.new.self ≡ t7 = c.text-4.ensures ∙ ap (λ z. z ++ codes ", ") e6 in
-    let e8 : c.add_stop.new.row ≡ t7 ++ stop_sentence w.stop = c.add_stop.ensures ∙ ap (λ z. z ++ stop_sentence w.stop) e7 in
+    let fate : Text = fate_sentence d (arrow_of w) in
+    let e8 : c.add_fate.new.row ≡ t7 ++ fate = c.add_fate.ensures ∙ ap (λ z. z ++ fate) e7 in
     let parts =
-    nine-parts words (codes " from ") from (codes " to ") to (codes ", sent at ") (decimal w.start) (codes ", ") (stop_sentence w.stop) in
+    nine-parts words (codes " from ") from (codes " to ") to (codes ", sent at ") (decimal w.start) (codes ", ") fate in
     offered_as _ (ap escape (c.as_slice.ensures ∙ (e8 ∙ parts))) c.put_escaped.ensures

@@ -1,9 +1,8 @@
 use Rattle.rh_pictures.proofs.Common.{◌≡◌, ℕ, ◌+◌, ◌<◌, ◌≤◌, List, ◌++◌, length, drop, map, ap, sym, ◌∙◌, append_assoc, arith, slice_index, enumerate_from}
-use Rattle.rh_pictures.proofs.Common.{flat_map, flat_map-append, drop_all, Panel, fixed_panel, made_panel, scene_at}
+use Rattle.rh_pictures.proofs.Common.{flat_map, flat_map-append, drop_all, Panel, fixed_panel, made_panel, scene_at, offered_as}
 use Rattle.rh_map.proofs.Left.{left_less, left_whole}
 use Rattle.rh_pictures.proofs.PageLemmas.{numbered-next}
 use Rattle.rh_pictures.proofs.TextPuts.{left_last}
-use Rattle.rh_pictures.proofs.PlaceLemmas.{offered_as}
 use Rattle.rh_pictures.proofs.walks.areas.show_areas.Goals as goal
 
 -- the panels of one area more, and of those behind it

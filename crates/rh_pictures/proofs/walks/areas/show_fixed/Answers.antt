@@ -1,9 +1,8 @@
 use Rattle.rh_pictures.proofs.Common.{◌≡◌, ℕ, false, List, [], ◌∷◌, length, ap, ap₂, sym, ◌∙◌, arith, if◌then◌else◌, ◌==◌, ◌||◌, slice_index, ne_eqb, Panel}
-use Rattle.rh_pictures.proofs.Common.{Scene, AreaOf, Text, append-nil, fixed_panel, flat_map, module_pages, scene_at}
+use Rattle.rh_pictures.proofs.Common.{Scene, AreaOf, Text, append-nil, fixed_panel, flat_map, module_pages, scene_at, offered_as}
 use Rattle.rh_figure.specs.Figure.{area_panel, fixed_note, listed_pages, numbers_text, scrap_text}
 use Rattle.rh_scene.specs.declared.sight.PagesOf.TheVariants as pages
 use Rattle.rh_pictures.proofs.PageLemmas.{owned, owned-few, owned-fixed, seen-fixed}
-use Rattle.rh_pictures.proofs.PlaceLemmas.{offered_as}
 use Rattle.rh_pictures.proofs.walks.areas.show_fixed.Goals as goal
 
 -- an area that has pages, and isn't the module area

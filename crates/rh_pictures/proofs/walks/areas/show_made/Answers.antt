@@ -1,10 +1,9 @@
-use Rattle.rh_pictures.proofs.Common.{◌≡◌, ℕ, List, length, map, ap, refl, ◌∙◌, arith, flat_map, Made, made_panel, AreaOf, scene_at}
+use Rattle.rh_pictures.proofs.Common.{◌≡◌, ℕ, List, length, map, ap, refl, ◌∙◌, arith, flat_map, Made, made_panel, AreaOf, scene_at, offered_as}
 use Rattle.rh_figure.specs.Figure.{area_panel, listed_pages, made_note}
 use Rattle.rh_map.proofs.Left.{left_less, left_none}
 use Rattle.rh_scene.specs.declared.sight.PagesOf.TheVariants as pages
 use Rattle.rh_pictures.proofs.PageLemmas.{made-above, owned, owned-few, owned-made, seen-made}
 use Rattle.rh_pictures.proofs.TextWalks.{text-none, text-some}
-use Rattle.rh_pictures.proofs.PlaceLemmas.{offered_as}
 use Rattle.rh_pictures.proofs.walks.areas.show_made.Goals as goal
 
 note-same : (most n : ℕ) (found kept : List ℕ) → length found ≡ n → found ≡ kept

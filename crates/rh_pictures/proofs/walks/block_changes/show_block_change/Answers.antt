@@ -1,7 +1,6 @@
-use Rattle.rh_pictures.proofs.Common.{ap, sym, ◌∙◌, flat_map, block_change}
+use Rattle.rh_pictures.proofs.Common.{ap, sym, ◌∙◌, flat_map, block_change, offered_as}
 use Rattle.rh_figure.specs.Changes.{new_line}
 use Rattle.rh_pictures.proofs.ElementLemmas.{parts-one}
-use Rattle.rh_pictures.proofs.PlaceLemmas.{offered_as}
 use Rattle.rh_pictures.proofs.walks.block_changes.show_block_change.Goals as goal
 
 pub returns-in-None : goal.returns-in-None

@@ -1,8 +1,7 @@
-use Rattle.rh_pictures.proofs.Common.{◌≡◌, List, [], ◌∷◌, length, ap, sym, ◌∙◌, Some, flat_map, BlockItem, item_with_anchor, slide_of, summary_of}
+use Rattle.rh_pictures.proofs.Common.{◌≡◌, List, [], ◌∷◌, length, ap, sym, ◌∙◌, Some, flat_map, BlockItem, item_with_anchor, slide_of, summary_of, offered_as}
 use Rattle.rh_pictures.specs.declared.walks.block_changes.Slid.{Slid}
 use Rattle.rh_figure.specs.Changes.{Slide, slide_change, slide_line}
 use Rattle.rh_pictures.proofs.ElementLemmas.{parts-one}
-use Rattle.rh_pictures.proofs.PlaceLemmas.{offered_as}
 use Rattle.rh_pictures.proofs.walks.block_changes.show_slides.Goals as goal
 
 -- blocks that slid, told by the lowest

@@ -1,8 +1,7 @@
-use Rattle.rh_pictures.proofs.Common.{◌≡◌, ℕ, List, ◌++◌, ◌∙◌, ap, append_assoc, sym, flat_map, task_at, Scene, Text, scene_at}
+use Rattle.rh_pictures.proofs.Common.{◌≡◌, ℕ, List, ◌++◌, ◌∙◌, ap, append_assoc, sym, flat_map, task_at, Scene, Text, scene_at, offered_as}
 use Rattle.rh_figure.specs.Changes.{block_changes, changes, page_changes, post_changes, slide_change, slides}
 use Rattle.rh_pictures.proofs.ElementLemmas.{parts-three}
 use Rattle.rh_pictures.proofs.TextPuts.{text_then}
-use Rattle.rh_pictures.proofs.PlaceLemmas.{offered_as}
 use Rattle.rh_pictures.proofs.walks.changes.show_changes.Goals as goal
 
 -- what has changed of the pool, of blocks, and of messages

@@ -1,8 +1,7 @@
 use Rattle.rh_pictures.proofs.Common.{◌≡◌, ◌<◌, ◌-◌, [], ◌∷◌, Some, length, ap, ap₂, sym, ◌∙◌, arith, slice_get, BlockItem, block_items, flex_start, flex_cards}
-use Rattle.rh_pictures.proofs.Common.{IsTaskSeen, scene_at}
+use Rattle.rh_pictures.proofs.Common.{IsTaskSeen, scene_at, offered_as}
 use Rattle.rh_pictures.proofs.CardLemmas.{flex-long, behind-are, flex-picked, flex-unpicked}
 use Rattle.rh_pictures.proofs.DrawingLemmas.{seen-same}
-use Rattle.rh_pictures.proofs.PlaceLemmas.{offered_as}
 use Rattle.rh_pictures.specs.DrawnCards.{cards_text}
 use Rattle.rh_pictures.specs.Inner.CardsBehind.{place_behind}
 use Rattle.std.proofs.lemmas.Option.{slice_get-get_or}

@@ -1,6 +1,6 @@
 use Rattle.rh_pictures.proofs.Common.{ℕ, List, [], ◌∷◌, length, take, ap, ap₂, refl, sym, ◌∙◌, arith, find, length-take, flex_start, IsTaskSeen, scene_at}
+use Rattle.rh_pictures.proofs.Common.{offered_as}
 use Rattle.rh_pictures.proofs.DrawingLemmas.{seen-same}
-use Rattle.rh_pictures.proofs.PlaceLemmas.{offered_as}
 use Rattle.rh_defs.specs.Records.{is_document, is_source}
 use Rattle.rh_figure.specs.Cards.{flex_card, in_use_text, out_use_text}
 use Rattle.rh_figure.specs.Layout.{is_fresh_flex}

@@ -1,7 +1,6 @@
-use Rattle.rh_pictures.proofs.Common.{◌≡◌, length, take, ap, sym, ◌∙◌, arith, take_all, block_items, flex_start, flex_cards, scene_at}
+use Rattle.rh_pictures.proofs.Common.{◌≡◌, length, take, ap, sym, ◌∙◌, arith, take_all, block_items, flex_start, flex_cards, scene_at, offered_as}
 use Rattle.rh_pictures.proofs.CardLemmas.{flex-long, count-few, count-many, count-within, shown-few, shown-parts, some-count, shown-behind}
 use Rattle.rh_pictures.proofs.DrawingLemmas.{seen-same}
-use Rattle.rh_pictures.proofs.PlaceLemmas.{offered_as}
 use Rattle.rh_pictures.specs.DrawnCards.{cards_text, count_shown}
 use Rattle.rh_pictures.proofs.TextPuts.{text_then}
 use Rattle.rh_pictures.proofs.walks.flex_cards.show_flex_cards.Goals as goal

@@ -1,6 +1,5 @@
-use Rattle.rh_pictures.proofs.Common.{◌≡◌, ◌∙◌, ◌+◌, ◌-◌, [], ◌∷◌, length, ap, sym, arith, heap_seen, heap_start_of, scene_at, at-some, band_cards}
+use Rattle.rh_pictures.proofs.Common.{◌≡◌, ◌∙◌, ◌+◌, ◌-◌, [], ◌∷◌, length, ap, sym, arith, heap_seen, heap_start_of, scene_at, at-some, band_cards, offered_as}
 use Rattle.rh_pictures.proofs.HeapLemmas.{if-heap, band-heap, band-long, band-none, band-some}
-use Rattle.rh_pictures.proofs.PlaceLemmas.{offered_as}
 use Rattle.rh_pictures.specs.DrawnCards.{cards_text}
 use Rattle.rh_figure.specs.Cards.{more_card}
 use Rattle.rh_pictures.specs.Bands.{band_card}

@@ -1,6 +1,5 @@
-use Rattle.rh_pictures.proofs.Common.{◌≡◌, ◌∙◌, length, take, ap, sym, arith, take_all, heap_seen, scene_at, at-some, band_cards}
+use Rattle.rh_pictures.proofs.Common.{◌≡◌, ◌∙◌, length, take, ap, sym, arith, take_all, heap_seen, scene_at, at-some, band_cards, offered_as}
 use Rattle.rh_pictures.proofs.HeapLemmas.{if-heap, band-long, band-many}
-use Rattle.rh_pictures.proofs.PlaceLemmas.{offered_as}
 use Rattle.rh_pictures.specs.DrawnCards.{cards_text, count_shown}
 use Rattle.rh_pictures.specs.Inner.Surveys.{IsSurvey}
 use Rattle.rh_pictures.proofs.CardLemmas.{count-few, count-many, count-most, count-within, shown-few, shown-parts, some-count, shown-behind}

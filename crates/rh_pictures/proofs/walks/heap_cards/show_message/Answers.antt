@@ -1,4 +1,4 @@
-use Rattle.rh_pictures.proofs.Common.{◌≡◌, ℕ, Bool, Some, ap, ◌∙◌, ◌==◌, action_of, Text, task_name, scene_at}
+use Rattle.rh_pictures.proofs.Common.{◌≡◌, ℕ, Bool, Some, ap, ◌∙◌, ◌==◌, action_of, Text, task_name, scene_at, offered_as}
 use Rattle.rh_defs.specs.declared.message.Action.{Action}
 use Rattle.rh_defs.specs.declared.message.EventCode.{EventCode}
 use Rattle.rh_figure.specs.Cards.{chain_text, message_card}
@@ -6,7 +6,6 @@ use Rattle.rh_figure.specs.Layout.{is_new_message}
 use Rattle.rh_scene.specs.SightMessages.{message_place}
 use Rattle.rh_pictures.specs.Inner.BandItems.{place_seen}
 use Rattle.rh_pictures.proofs.PostLemmas.{chain-is}
-use Rattle.rh_pictures.proofs.PlaceLemmas.{offered_as}
 use Rattle.rh_pictures.proofs.walks.heap_cards.show_message.Goals as goal
 
 -- a card, by its parts

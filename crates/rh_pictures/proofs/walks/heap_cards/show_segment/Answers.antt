@@ -1,6 +1,5 @@
 use Rattle.rh_pictures.proofs.Common.{◌≡◌, ◌∙◌, ℕ, ◌+◌, ◌-◌, ◌++◌, Option, Some, None, ap, sym, subst, arith, ◌==◌, find, Parcel, MessageItem, held_on}
-use Rattle.rh_pictures.proofs.Common.{message_items, waiting_on, heap_seen, heap_start_of, scene_at}
-use Rattle.rh_pictures.proofs.PlaceLemmas.{offered_as}
+use Rattle.rh_pictures.proofs.Common.{message_items, waiting_on, heap_seen, heap_start_of, scene_at, offered_as}
 use Rattle.rh_defs.specs.Post.{post_is_message}
 use Rattle.rh_figure.specs.Scene.{live, message_of_scene}
 use Rattle.rh_scene.specs.declared.sight.HeapOf.{HeapOf}

@@ -1,7 +1,7 @@
 use Rattle.rh_pictures.proofs.Common.{◌≡◌, ℕ, ◌-◌, List, [], ◌∷◌, length, take, ap₂, sym, subst, ◌∙◌, arith, length-take, SeesBlock, heap_seen, heap_start_of}
+use Rattle.rh_pictures.proofs.Common.{offered_as}
 use Rattle.rh_figure.specs.Cards.{used_card}
 use Rattle.rh_pictures.proofs.CardLemmas.{front-is}
-use Rattle.rh_pictures.proofs.PlaceLemmas.{offered_as}
 use Rattle.rh_pictures.proofs.walks.heap_cards.show_used.Goals as goal
 
 pub returns : goal.returns

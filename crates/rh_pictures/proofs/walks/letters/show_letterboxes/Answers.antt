@@ -1,9 +1,9 @@
-use Rattle.rh_pictures.proofs.Common.{◌∙◌, ap, ap₂, refl, arith, flat_map, slice_get_within, Task, letterboxes_in}
+use Rattle.rh_pictures.proofs.Common.{◌∙◌, ap, ap₂, refl, arith, flat_map, slice_get_within, Task, letterboxes_in, offered_as}
 use Rattle.rh_map.proofs.Left.{left_less, left_none}
 use Rattle.rh_pictures.proofs.PostLemmas.{boxes, boxes-are}
 use Rattle.rh_pictures.proofs.TextPuts.{left_from}
 use Rattle.rh_pictures.proofs.TextWalks.{text-flat, text-none, text-some}
-use Rattle.rh_pictures.proofs.PlaceLemmas.{offered_as, walk-less}
+use Rattle.rh_pictures.proofs.PlaceLemmas.{walk-less}
 use Rattle.rh_pictures.proofs.walks.letters.show_letterboxes.Goals as goal
 
 pub tasks-init : goal.tasks-init

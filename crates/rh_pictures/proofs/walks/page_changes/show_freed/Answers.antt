@@ -1,7 +1,6 @@
-use Rattle.rh_pictures.proofs.Common.{◌<◌, length, ap, sym, ◌∙◌, arith, nat_tests, flat_map}
+use Rattle.rh_pictures.proofs.Common.{◌<◌, length, ap, sym, ◌∙◌, arith, nat_tests, flat_map, offered_as}
 use Rattle.rh_figure.specs.Changes.{freed_text}
 use Rattle.rh_pictures.proofs.ElementLemmas.{freed-one}
-use Rattle.rh_pictures.proofs.PlaceLemmas.{offered_as}
 use Rattle.rh_pictures.proofs.walks.page_changes.show_freed.Goals as goal
 
 pub returns : goal.returns

@@ -1,9 +1,8 @@
 use Rattle.rh_pictures.proofs.Common.{◌≡◌, ◌<◌, ◌≤◌, ◌-◌, length, drop, ap, ap₂, sym, ◌∙◌, arith, rules, length-drop, length-take, taken_line, count_of}
-use Rattle.rh_pictures.proofs.Common.{scene_at}
+use Rattle.rh_pictures.proofs.Common.{scene_at, offered_as, offered_none}
 use Rattle.std.proofs.lemmas.List.{take_rest}
 use Rattle.rh_pictures.proofs.OwnerLemmas.{owner-few, owner-pages}
 use Rattle.rh_pictures.proofs.PageLemmas.{takes-none, takes-one}
-use Rattle.rh_pictures.proofs.PlaceLemmas.{offered_as, offered_none}
 use Rattle.rh_pictures.specs.PaintedOwners.{who_seen}
 use Rattle.rh_pictures.proofs.walks.page_changes.show_owner_takes.Goals as goal
 

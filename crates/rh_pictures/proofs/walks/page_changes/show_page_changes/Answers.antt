@@ -1,8 +1,7 @@
-use Rattle.rh_pictures.proofs.Common.{sym, flat_map, holdings, scene_at}
+use Rattle.rh_pictures.proofs.Common.{sym, flat_map, holdings, scene_at, offered_as}
 use Rattle.rh_figure.specs.Changes.{freed_pages, freed_text, takes_text}
 use Rattle.rh_pictures.proofs.ElementLemmas.{parts-both}
 use Rattle.rh_pictures.proofs.TextPuts.{text_then}
-use Rattle.rh_pictures.proofs.PlaceLemmas.{offered_as}
 use Rattle.rh_pictures.proofs.walks.page_changes.show_page_changes.Goals as goal
 
 pub returns : goal.returns

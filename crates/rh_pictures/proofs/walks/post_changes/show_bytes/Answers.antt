@@ -1,7 +1,6 @@
-use Rattle.rh_pictures.proofs.Common.{ap, sym, ◌∙◌, flat_map, task_name, scene_of}
+use Rattle.rh_pictures.proofs.Common.{ap, sym, ◌∙◌, flat_map, task_name, scene_of, offered_as}
 use Rattle.rh_figure.specs.Changes.{bytes_line, bytes_sent_text}
 use Rattle.rh_pictures.proofs.ElementLemmas.{parts-one}
-use Rattle.rh_pictures.proofs.PlaceLemmas.{offered_as}
 use Rattle.rh_pictures.proofs.walks.post_changes.show_bytes.Goals as goal
 
 pub returns-in-RamTransmit : goal.returns-in-RamTransmit

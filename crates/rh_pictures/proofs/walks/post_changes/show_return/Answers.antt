@@ -1,8 +1,7 @@
-use Rattle.rh_pictures.proofs.Common.{◌≡◌, true, [], ◌∷◌, ap, sym, ◌∙◌, if◌then◌else◌, flat_map, task_name}
+use Rattle.rh_pictures.proofs.Common.{◌≡◌, true, [], ◌∷◌, ap, sym, ◌∙◌, if◌then◌else◌, flat_map, task_name, offered_as}
 use Rattle.rh_figure.specs.Changes.{returns_line}
 use Rattle.rh_pictures.specs.Returns as back
 use Rattle.rh_pictures.proofs.ElementLemmas.{parts-one}
-use Rattle.rh_pictures.proofs.PlaceLemmas.{offered_as}
 use Rattle.rh_pictures.proofs.walks.post_changes.show_return.Goals as goal
 
 pub returns : goal.returns

@@ -1,7 +1,6 @@
-use Rattle.rh_pictures.proofs.Common.{ap, sym, ◌∙◌, flat_map, task_name, scene_at}
+use Rattle.rh_pictures.proofs.Common.{ap, sym, ◌∙◌, flat_map, task_name, scene_at, offered_as}
 use Rattle.rh_figure.specs.Changes.{taken_text, takes_line}
 use Rattle.rh_pictures.proofs.ElementLemmas.{parts-one}
-use Rattle.rh_pictures.proofs.PlaceLemmas.{offered_as}
 use Rattle.rh_pictures.proofs.walks.post_changes.show_taken.Goals as goal
 
 pub returns-in-Some : goal.returns-in-Some

@@ -1,8 +1,7 @@
-use Rattle.rh_pictures.proofs.Common.{ℕ, None, Some, ap, ap₂, sym, ◌∙◌, list_any, has_id, outs_of}
+use Rattle.rh_pictures.proofs.Common.{ℕ, None, Some, ap, ap₂, sym, ◌∙◌, list_any, has_id, outs_of, offered_as, offered_none}
 use Rattle.rh_defs.specs.declared.question.RecordItem.{RecordItem}
 use Rattle.rh_figure.specs.Figure.{Transfer}
 use Rattle.rh_pictures.proofs.TransferLemmas.{alone-none, alone-one, in-id}
-use Rattle.rh_pictures.proofs.PlaceLemmas.{offered_as, offered_none}
 use Rattle.rh_pictures.proofs.walks.transfers.show_if_alone.Goals as goal
 
 pub returns-then-has_out : goal.returns-then-has_out

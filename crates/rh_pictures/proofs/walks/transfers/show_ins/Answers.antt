@@ -1,9 +1,9 @@
-use Rattle.rh_pictures.proofs.Common.{map, ap₂, refl, arith, flat_map, slice_get_within, Task, alone_among, comes_alone, ins_named, outs_of}
+use Rattle.rh_pictures.proofs.Common.{map, ap₂, refl, arith, flat_map, slice_get_within, Task, alone_among, comes_alone, ins_named, outs_of, offered_as}
 use Rattle.rh_map.proofs.Left.{left_less, left_none}
 use Rattle.rh_pictures.proofs.TransferLemmas.{ins-flat}
 use Rattle.rh_pictures.proofs.TextPuts.{left_from}
 use Rattle.rh_pictures.proofs.TextWalks.{text-none, text-some}
-use Rattle.rh_pictures.proofs.PlaceLemmas.{offered_as, walk-less}
+use Rattle.rh_pictures.proofs.PlaceLemmas.{walk-less}
 use Rattle.rh_pictures.proofs.walks.transfers.show_ins.Goals as goal
 
 pub tasks-init : goal.tasks-init

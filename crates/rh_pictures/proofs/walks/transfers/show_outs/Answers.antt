@@ -1,9 +1,9 @@
-use Rattle.rh_pictures.proofs.Common.{map, ap₂, refl, arith, flat_map, slice_get_within, Task, goes_out, ins_of, outs_named}
+use Rattle.rh_pictures.proofs.Common.{map, ap₂, refl, arith, flat_map, slice_get_within, Task, goes_out, ins_of, outs_named, offered_as}
 use Rattle.rh_map.proofs.Left.{left_less, left_none}
 use Rattle.rh_pictures.proofs.TransferLemmas.{outs-flat}
 use Rattle.rh_pictures.proofs.TextPuts.{left_from}
 use Rattle.rh_pictures.proofs.TextWalks.{text-none, text-some}
-use Rattle.rh_pictures.proofs.PlaceLemmas.{offered_as, walk-less}
+use Rattle.rh_pictures.proofs.PlaceLemmas.{walk-less}
 use Rattle.rh_pictures.proofs.walks.transfers.show_outs.Goals as goal
 
 pub tasks-init : goal.tasks-init

@@ -1,7 +1,6 @@
-use Rattle.rh_pictures.proofs.Common.{map, sym, alone_among, comes_alone, goes_out, ins_of, outs_of}
+use Rattle.rh_pictures.proofs.Common.{map, sym, alone_among, comes_alone, goes_out, ins_of, outs_of, offered_as}
 use Rattle.rh_pictures.proofs.ElementLemmas.{parts-both}
 use Rattle.rh_pictures.proofs.TextPuts.{text_then}
-use Rattle.rh_pictures.proofs.PlaceLemmas.{offered_as}
 use Rattle.rh_pictures.proofs.walks.transfers.show_transfers.Goals as goal
 
 pub returns : goal.returns

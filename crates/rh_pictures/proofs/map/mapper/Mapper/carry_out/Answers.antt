@@ -1,7 +1,6 @@
-use Rattle.rh_pictures.proofs.Common.{◌∙◌, ap, refl, sym, shown_lines, share_in, Mapper, reply_to}
+use Rattle.rh_pictures.proofs.Common.{◌∙◌, ap, refl, sym, shown_lines, share_in, Mapper, reply_to, offered_as}
 use Rattle.rh_pictures.proofs.ShareLemmas.{is_shared}
 use Rattle.rh_pictures.proofs.MapStepLemmas.{command-text, hidden-command, rest-as, told-command}
-use Rattle.rh_pictures.proofs.PlaceLemmas.{offered_as}
 use Rattle.rh_pictures.proofs.map.mapper.Mapper.carry_out.Goals as goal
 
 pub returns-then-and_not-clause-told : goal.returns-then-and_not-clause-told

@@ -1,7 +1,6 @@
-use Rattle.rh_pictures.proofs.Common.{◌∙◌, true, ap, refl, sym, fault_text, shown_lines, share_in, Mapper}
+use Rattle.rh_pictures.proofs.Common.{◌∙◌, true, ap, refl, sym, fault_text, shown_lines, share_in, Mapper, offered_as}
 use Rattle.rh_pictures.proofs.ShareLemmas.{is_shared}
 use Rattle.rh_pictures.proofs.MapStepLemmas.{fault-from, fault-text, hidden-fault, told-fault}
-use Rattle.rh_pictures.proofs.PlaceLemmas.{offered_as}
 use Rattle.rh_pictures.proofs.map.mapper.Mapper.refuse.Goals as goal
 
 pub returns-then-and_not-clause-told : goal.returns-then-and_not-clause-told

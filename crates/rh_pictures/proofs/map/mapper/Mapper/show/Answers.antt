@@ -1,7 +1,6 @@
-use Rattle.rh_pictures.proofs.Common.{◌∙◌, List, ℕ, ap, ap₂, subst, sym, ◌&&◌, not, scene_of, shown_lines, share_in, Excerpts}
+use Rattle.rh_pictures.proofs.Common.{◌∙◌, List, ℕ, ap, ap₂, subst, sym, ◌&&◌, not, scene_of, shown_lines, share_in, Excerpts, offered_as}
 use Rattle.rh_figure.specs.Map.{step_lines}
 use Rattle.rh_scene.specs.Steps.{marks_seen}
-use Rattle.rh_pictures.proofs.PlaceLemmas.{offered_as}
 use Rattle.rh_pictures.proofs.map.mapper.Mapper.show.Goals as goal
 
 pub returns-clause-text : goal.returns-clause-text
