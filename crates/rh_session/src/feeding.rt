@@ -8,6 +8,7 @@ ghost use Rattle.rh_session.specs.Taken.{Fed, FedAll, FedUntil, Gives, TookAll, 
 ghost use Rattle.rh_lines.specs.Flow.{Puts, unread};
 ghost use Rattle.rh_lines.specs.Pens.{begun_of, offered_of, text_of, writer_of};
 
+use crate::buffers::MOST_HELD;
 use crate::fault::FeedFault;
 use crate::line::LineBuffer;
 use crate::taker::LineTaker;
@@ -18,17 +19,15 @@ use rh_lines::{Sink, Source, WriteFailed, WriterPen};
 /// Of lines that are counted in 32 bits so many bytes are read at a time: a script has less than 2^32 bytes then.
 pub const PIECE: usize = 4_096;
 
-/// So many bytes are held before they are written.
-const ROOM: usize = 65_536;
-
 /// Reads a script to its end, piece by piece, and hands each of its lines to the taker; at last what stands behind the
-/// last line feed. The text of each piece is written before it reads on. It gives up after `MOST_READS` reads that gave
-/// bytes.
+/// last line feed. The text of each piece is held in lent bytes, and is written before it reads on. It gives up after
+/// `MOST_READS` reads that gave bytes.
 pub fn feed_all<T: LineTaker, R: Source, W: Sink>(
     taker: &mut T,
     reader: &mut R,
     piece: &mut [u8],
     writer: &mut W,
+    held: &mut [u8],
 ) -> Result<(), FeedFault>
     requires fresh { (R.input reader.old).reads ≡ 0 }
     requires some { 0 < length piece.old }
@@ -57,8 +56,7 @@ pub fn feed_all<T: LineTaker, R: Source, W: Sink>(
     // However it ends, at most so many reads gave bytes.
     ensures reads { (R.input reader.new).reads ≤ MOST_READS }
 {
-    let mut room = [0; ROOM];
-    let mut pen = WriterPen::new(writer, &mut room);
+    let mut pen = WriterPen::new(writer, held);
     let mut line = LineBuffer::new();
     for _turn in 0..MOST_READS {
         let count = match reader.read(piece) {
@@ -100,8 +98,8 @@ pub fn feed_whole<T: LineTaker, W: Sink>(
     ensures write_failed { OnErr result (FedUntil T.took T.took_rest (unread script.now) (unread []) taker.old
         (W.output writer.old) (W.output writer.new)) }
 {
-    let mut room = [0; ROOM];
-    let mut pen = WriterPen::new(writer, &mut room);
+    let mut held = [0; MOST_HELD];
+    let mut pen = WriterPen::new(writer, &mut held);
     let mut line = LineBuffer::new();
     feed(taker, &mut line, script, &mut pen)?;
     taker.take_rest(line.as_slice(), &mut pen);

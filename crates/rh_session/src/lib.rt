@@ -2,6 +2,7 @@
 //! them: a run, over any desktop that applies commands and prints their replies.
 #![tactic(auto)]
 
+mod buffers;
 mod desktop;
 mod fault;
 mod feeding;
@@ -11,6 +12,7 @@ mod session;
 mod status;
 mod taker;
 
+pub use buffers::{Buffers, LONGEST_PIECE, MOST_HELD};
 pub use desktop::Desktop;
 pub use fault::FeedFault;
 pub use feeding::{LONGEST_SCRIPT, PIECE, feed_all, feed_whole};

@@ -6,14 +6,12 @@ ghost use Rattle.rh_defs.specs.Desk.{Desk};
 ghost use Rattle.rh_lines.specs.Flow.{unread};
 ghost use Rattle.rh_session.specs.Outcome.{Answered, Finished, BrokeOff};
 
+use crate::buffers::Buffers;
 use crate::desktop::Desktop;
 use crate::feeding::{feed_all, feed_whole};
 use crate::session::Session;
 use crate::status::{RunFault, Status, run_fault};
 use rh_lines::{Sink, Source, WriteFailed};
-
-/// So many bytes are read at a time.
-const PIECE: usize = 65_536;
 
 /// Runs a script over a desktop, and writes the answer of each line before it reads on.
 /// It gives up after `MOST_READS` reads that gave bytes.
@@ -21,6 +19,7 @@ pub fn run_script<D: Desktop, R: Source, W: Sink>(
     desktop: D,
     reader: &mut R,
     writer: &mut W,
+    buffers: &mut Buffers,
 ) -> Result<Status, RunFault>
     requires { (R.input reader.old).reads ≡ 0 }
 
@@ -48,8 +47,8 @@ pub fn run_script<D: Desktop, R: Source, W: Sink>(
     ensures reads { (R.input reader.new).reads ≤ MOST_READS }
 {
     let mut session = Session::new(desktop);
-    let mut piece = [0; PIECE];
-    match feed_all(&mut session, reader, &mut piece, writer) {
+    let piece = &mut buffers.piece;
+    match feed_all(&mut session, reader, piece, writer, &mut buffers.held) {
         Ok(()) => Ok(session.status()),
         Err(fault) => Err(run_fault(fault)),
     }

@@ -15,7 +15,7 @@ use rh_run::{
     RunFault, Status, draw_map, draw_sheet, map_of, map_over, replies_of, run, run_over, sheet_of,
     sheet_over,
 };
-use rh_session::LONGEST_SCRIPT;
+use rh_session::{Buffers, LONGEST_SCRIPT};
 use rh_store::PlainStore;
 use std::alloc::{AllocError, Global};
 
@@ -101,7 +101,8 @@ pub(crate) fn over_plain(alloc: Global, script: &[u8], pages: u32) -> Result<Wri
     let mut reader = Flagged::new(script);
     let mut writer = Flagged::new(Vec::<u8>::new(alloc));
     let files = one_file(alloc)?;
-    let ended = run_over(store, files, &mut reader, &mut writer);
+    let mut buffers = Box::new(alloc, Buffers::new())?;
+    let ended = run_over(store, files, &mut reader, &mut writer, &mut buffers);
     let text = writer.into_inner();
     Ok(Written { text, ended })
 }
@@ -126,10 +127,14 @@ pub(crate) fn over_lent(alloc: Global, script: &[u8], form: Form) -> Result<Writ
     let files = one_file(alloc)?;
     let mut reader = Flagged::new(script);
     let mut writer = Flagged::new(Vec::<u8>::new(alloc));
+    let mut buffers = Box::new(alloc, Buffers::new())?;
+    let lent = &mut *buffers;
     let ended = match form {
-        Form::Replies => run_over(store, files, &mut reader, &mut writer),
-        Form::Map(marked) => map_over(store, files, &mut reader, &mut writer, marked),
-        Form::Sheet(marked) => sheet_over(store, files, &mut reader, &mut writer, marked, b"It"),
+        Form::Replies => run_over(store, files, &mut reader, &mut writer, lent),
+        Form::Map(marked) => map_over(store, files, &mut reader, &mut writer, marked, lent),
+        Form::Sheet(marked) => {
+            sheet_over(store, files, &mut reader, &mut writer, marked, b"It", lent)
+        }
     };
     let text = writer.into_inner();
     Ok(Written { text, ended })
