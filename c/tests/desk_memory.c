@@ -101,7 +101,7 @@ static void work(void)
     } while (0)
 
 static const uint8_t abc[] = "abc";
-static uint32_t address, made;
+static uint32_t address, handle, made;
 static size_t count, other;
 
 /* Tasks c and d, and c's flex blocks and C heap. */
@@ -110,6 +110,7 @@ static void calls_on_memory(void)
     bool was;
     BOTH(vf_desk_task(&desk, VF_TEXT("c"), 10, VF_TASK_PLAIN, &number),
          vf_desk_task(&desk, VF_TEXT("c"), 10, VF_TASK_PLAIN, &number));
+    handle = number;
     EXPECT(vf_desk_task(&desk, VF_TEXT("d"), 10, VF_TASK_PLAIN, &number) == VF_OK);
     BOTH(vf_desk_load(&desk, VF_TEXT("c"), 0, VF_TEXT("notes"), &number),
          vf_desk_load(&desk, VF_TEXT("c"), 2, VF_TEXT("none"), &number));
@@ -117,8 +118,15 @@ static void calls_on_memory(void)
     BOTH(vf_desk_put(&desk, VF_TEXT("c"), 1, 0, abc, 3), vf_desk_put(&desk, VF_TEXT("c"), 1, 18, abc, 3));
     BOTH(vf_desk_extend(&desk, VF_TEXT("c"), 1, 40), vf_desk_extend(&desk, VF_TEXT("c"), 5, 40));
     BOTH(vf_desk_mid(&desk, VF_TEXT("c"), 1, 2, 5), vf_desk_mid(&desk, VF_TEXT("c"), 1, 99, 5));
+    BOTH(vf_desk_show_at(&desk, VF_TEXT("c"), 1, 2, text, 5, &number),
+         vf_desk_show_at(&desk, VF_TEXT("c"), 1, 99, text, 5, &number));
     BOTH(vf_desk_free(&desk, VF_TEXT("c"), 1), vf_desk_free(&desk, VF_TEXT("c"), 1));
     BOTH(vf_desk_claim(&desk, VF_TEXT("c"), 30, &address), vf_desk_claim(&desk, VF_TEXT("c"), 0, &number));
+    BOTH(vf_desk_write(&desk, VF_TEXT("c"), address, 2, abc, 3), vf_desk_write(&desk, VF_TEXT("c"), 0, 2, abc, 3));
+    BOTH(vf_desk_read(&desk, VF_TEXT("c"), address, 2, text, 3, &number),
+         vf_desk_read(&desk, VF_TEXT("c"), 0, 2, text, 3, &number));
+    BOTH(vf_desk_transfer(&desk, handle, address, handle, address + 8, 4),
+         vf_desk_transfer(&desk, 0, address, handle, address + 8, 4));
     BOTH(vf_desk_resize(&desk, VF_TEXT("c"), address, 8, &address),
          vf_desk_resize(&desk, VF_TEXT("c"), address + 1, 8, &number));
     BOTH(vf_desk_release(&desk, VF_TEXT("c"), address), vf_desk_release(&desk, VF_TEXT("c"), address));
@@ -147,6 +155,8 @@ static void calls_on_areas(void)
     BOTH(vf_desk_remove(&desk, made), vf_desk_remove(&desk, made));
     BOTH(vf_desk_rma_claim(&desk, 50, &address), vf_desk_rma_claim(&desk, 0, &number));
     BOTH(vf_desk_rma_resize(&desk, address, 8, &address), vf_desk_rma_resize(&desk, address + 1, 8, &number));
+    BOTH(vf_desk_rma_write(&desk, address, 8, abc, 3), vf_desk_rma_write(&desk, address, 58, abc, 3));
+    BOTH(vf_desk_rma_read(&desk, address, 8, text, 3, &number), vf_desk_rma_read(&desk, address, 58, text, 3, &number));
     BOTH(vf_desk_rma_free(&desk, address), vf_desk_rma_free(&desk, address));
 }
 

@@ -96,6 +96,38 @@ static void calls_on_slots_see_null(const struct flex_calls *flex, size_t len)
     EXPECT(slot.pages == 1 && slot.budge && !byte);
 }
 
+/* The calls on a wide slot. */
+static void calls_on_wide_slots_see_null(size_t len)
+{
+    static uint8_t byte;
+    struct vf_wide_slot slot = {512, 512, 64, 0}, *const it = &slot;
+    for (int i = 0; i < 2; i++) {
+        uint8_t *at = i ? memory : NULL;
+        struct vf_wide_slot *slot_or_null = i ? NULL : it;
+        IS_NULL(vf_flex_start_with(at, len, slot_or_null, 64));
+        IS_NULL(vf_flex_wide_alloc(at, len, slot_or_null, 0, 1, &number));
+        IS_NULL(vf_flex_wide_free(at, len, slot_or_null, 0));
+        IS_NULL(vf_flex_wide_size(at, len, slot_or_null, 0, &number));
+        IS_NULL(vf_flex_wide_place(at, len, slot_or_null, 0, &number));
+        IS_NULL(vf_flex_wide_places(at, len, slot_or_null, &number, 1));
+        IS_NULL(vf_flex_wide_extend(at, len, slot_or_null, 0, 1));
+        IS_NULL(vf_flex_wide_midextend(at, len, slot_or_null, 0, 0, 1));
+        IS_NULL(vf_flex_wide_put(at, len, slot_or_null, 0, 0, &byte, 1));
+        IS_NULL(vf_flex_wide_read(at, len, slot_or_null, 0, 0, &byte, 1));
+        IS_NULL(vf_flex_wide_budge(at, len, slot_or_null, 8, &number));
+    }
+    IS_NULL(vf_flex_wide_alloc(memory, len, it, 0, 1, NULL));
+    IS_NULL(vf_flex_wide_size(memory, len, it, 0, NULL));
+    IS_NULL(vf_flex_wide_place(memory, len, it, 0, NULL));
+    IS_NULL(vf_flex_wide_budge(memory, len, it, 8, NULL));
+    for (size_t n = 0; n < 2; n++) {
+        IS_NULL(vf_flex_wide_places(memory, len, it, NULL, n));
+        IS_NULL(vf_flex_wide_put(memory, len, it, 0, 0, NULL, n));
+        IS_NULL(vf_flex_wide_read(memory, len, it, 0, 0, NULL, n));
+    }
+    EXPECT(slot.base == 512 && slot.top == 512 && slot.anchors == 64 && !slot.slides && !byte);
+}
+
 int main(void)
 {
     static const size_t lengths[] = {0, LEN, SIZE_MAX};
@@ -110,6 +142,7 @@ int main(void)
         slots_see_null(lengths[i]);
         calls_on_slots_see_null(&TRUSTING_FLEX, lengths[i]);
         calls_on_slots_see_null(&CHECKED_FLEX, lengths[i]);
+        calls_on_wide_slots_see_null(lengths[i]);
     }
     EXPECT(number == UNSET && other == UNSET && memcmp(before, memory, LEN) == 0);
     return ended("null");

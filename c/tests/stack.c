@@ -1,8 +1,8 @@
 /*
  * stack.c: how much stack a call needs, on one that was filled with a byte before: less than 1 KiB on a heap or a slot,
  * less than 2 KiB on a sender, a receiver or a message, and on a desk what docs/C.md says of it. Then all calls on an
- * open desk in a row, on a stack of 24 KiB below which no byte may be touched. With sanitizers nothing is measured,
- * since these use the stack too.
+ * open desk in a row, on a stack of 24 KiB below which no byte may be touched, and a desk from its first file to its end
+ * on one of 128. With sanitizers nothing is measured, since these use the stack too.
  */
 #define _DEFAULT_SOURCE
 #include "expect.h"
@@ -11,14 +11,16 @@
 #include <sys/mman.h>
 #include <ucontext.h>
 
-enum { ROOM = 1 << 20, STACK = 1 << 20, FILL = 0xa5, KIB = 1024, SMALL_STACK = 24 * KIB, GUARD = 64 * KIB };
+enum { ROOM = 1 << 20, STACK = 1 << 20, FILL = 0xa5, KIB = 1024, GUARD = 64 * KIB };
 enum { FEW = KIB, TRANSFER = 2 * KIB, QUESTION = 4 * KIB, COMMAND = 8 * KIB };
-enum { LISTS = 11 * KIB, ADDING = 60 * KIB, OPENING = 144 * KIB };
+enum { LISTS = 9 * KIB, LONGEST_REPLY = 11 * KIB, OPENING = 113 * KIB };
+enum { SMALL_STACK = 24 * KIB, WHOLE_STACK = 128 * KIB };
 
 static uint8_t memory[ROOM], bytes[8192];
 static uint64_t map[2 * ROOM / 512];
 static size_t number, other;
 static struct vf_slot slot;
+static struct vf_wide_slot wide;
 static struct vf_desk desk = VF_DESK_CLOSED;
 static struct vf_event event;
 static struct vf_message message;
@@ -120,6 +122,22 @@ static void flex_bytes(void)
     vf_flex_read(memory, ROOM, &slot, 3, 0, bytes, 3000);
 }
 
+static void wide_start(void) { vf_flex_start_with(memory, ROOM, &wide, 4096); }
+static void wide_alloc(void)
+{
+    for (uint32_t anchor = 0; anchor < 4096; anchor++)
+        vf_flex_wide_alloc(memory, ROOM, &wide, anchor, 9, &number);
+}
+static void wide_free(void) { vf_flex_wide_free(memory, ROOM, &wide, 0); }
+static void wide_extend(void) { vf_flex_wide_extend(memory, ROOM, &wide, 1, 9000); }
+static void wide_midextend(void) { vf_flex_wide_midextend(memory, ROOM, &wide, 1, 100, -5000); }
+static void wide_budge(void) { vf_flex_wide_budge(memory, ROOM, &wide, 800, &number); }
+static void wide_bytes(void)
+{
+    vf_flex_wide_put(memory, ROOM, &wide, 1, 0, bytes, 3000);
+    vf_flex_wide_read(memory, ROOM, &wide, 1, 0, bytes, 3000);
+}
+
 static void desk_file(void) { vf_desk_file(&desk, VF_TEXT("notes"), bytes, 100); }
 static void desk_open(void) { vf_desk_open(&desk, 64, 1, 1); }
 static void desk_tasks(void)
@@ -172,8 +190,26 @@ static void desk_questions(void)
     vf_desk_status(&desk, A, &told, records, 8, &number, other_records, 8, &other);
     vf_desk_areas(&desk, &told, areas, 70, &number);
 }
+static void desk_bytes(void)
+{
+    vf_desk_claim(&desk, A, 100, &told);
+    vf_desk_write(&desk, A, told, 1, bytes, 99);
+    vf_desk_read(&desk, A, told, 1, bytes, 99, &told);
+    vf_desk_blocks(&desk, A, blocks, 64, &number);
+    vf_desk_write(&desk, A, blocks[0].address, 1, bytes, 99);
+    vf_desk_show_at(&desk, A, 0, 1, bytes, 99, &told);
+    vf_desk_transfer(&desk, 1, 0x8114, 1, 0x8115, 1);
+    vf_desk_rma_claim(&desk, 100, &told);
+    vf_desk_rma_write(&desk, told, 1, bytes, 99);
+    vf_desk_rma_read(&desk, told, 1, bytes, 99, &told);
+}
 static void desk_line(void) { vf_desk_line(&desk, VF_TEXT("areas")); }
 static void desk_next(void) { vf_desk_next(&desk, B, &message, &told); }
+static void desk_heap_reply(void)
+{
+    vf_desk_line(&desk, VF_TEXT("heap a"));
+    vf_desk_reply(&desk, bytes, sizeof bytes, &number);
+}
 static void desk_reply(void) { vf_desk_reply(&desk, bytes, sizeof bytes, &number); }
 static void desk_kill(void) { vf_desk_kill(&desk, B); }
 static void desk_close(void) { vf_desk_close(&desk); }
@@ -190,14 +226,19 @@ static const struct { const char *name; void (*call)(void); size_t most; } CALLS
     {"flex midextend", flex_midextend, FEW}, {"flex claim", flex_claim, FEW},
     {"flex resize", flex_resize, FEW},       {"flex release", flex_release, FEW},
     {"flex check", flex_check, FEW},         {"flex, checked", flex_checked, FEW},
-    {"flex put and read", flex_bytes, FEW},  {"senders", senders, TRANSFER},
+    {"flex put and read", flex_bytes, FEW},  {"wide start", wide_start, FEW},
+    {"wide alloc", wide_alloc, FEW},         {"wide free", wide_free, FEW},
+    {"wide extend", wide_extend, FEW},       {"wide midextend", wide_midextend, FEW},
+    {"wide budge", wide_budge, FEW},         {"wide put and read", wide_bytes, FEW},
+    {"senders", senders, TRANSFER},
     {"receivers", receivers, TRANSFER},      {"messages", messages, TRANSFER},
-    {"desk file", desk_file, ADDING},
+    {"desk file", desk_file, COMMAND},
     {"desk open", desk_open, OPENING},       {"desk tasks", desk_tasks, COMMAND},
     {"desk flex", desk_flex, COMMAND},       {"desk heaps", desk_heaps, COMMAND},
     {"desk areas", desk_areas, COMMAND},     {"desk transfer", desk_transfer, COMMAND},
-    {"desk questions", desk_questions, LISTS}, {"desk line", desk_line, COMMAND},
-    {"desk next", desk_next, QUESTION},      {"desk reply", desk_reply, QUESTION},
+    {"desk questions", desk_questions, LISTS}, {"desk bytes", desk_bytes, COMMAND},
+    {"desk line", desk_line, COMMAND},       {"desk next", desk_next, QUESTION},
+    {"desk reply", desk_reply, QUESTION},    {"desk reply to heap", desk_heap_reply, LONGEST_REPLY},
     {"desk kill", desk_kill, COMMAND},       {"desk close", desk_close, QUESTION},
 };
 
@@ -234,22 +275,30 @@ static void desk_calls(void)
     desk_areas();
     desk_transfer();
     desk_questions();
+    desk_bytes();
     desk_line();
     desk_next();
     desk_reply();
+    desk_heap_reply();
     desk_kill();
 }
 
-/* They need no more than a small stack, whatever came before. The pages below it end the program where one does. */
-static void try_small_stack(void)
+/* A desk from its first file to its end: all 28 commands, and the calls beside them. */
+static void desk_whole(void)
 {
-    uint8_t *pages = mmap(NULL, GUARD + SMALL_STACK, PROT_NONE, MAP_PRIVATE | MAP_ANONYMOUS, -1, 0);
-    EXPECT(pages != MAP_FAILED && mprotect(pages + GUARD, SMALL_STACK, PROT_READ | PROT_WRITE) == 0);
     desk_file();
     desk_open();
-    call_on(desk_calls, pages + GUARD, SMALL_STACK);
+    desk_calls();
     desk_close();
-    EXPECT(munmap(pages, GUARD + SMALL_STACK) == 0);
+}
+
+/* The calls need no more than this stack, whatever came before. The pages below it end the program where one does. */
+static void try_on(void (*calls)(void), size_t length)
+{
+    uint8_t *pages = mmap(NULL, GUARD + length, PROT_NONE, MAP_PRIVATE | MAP_ANONYMOUS, -1, 0);
+    EXPECT(pages != MAP_FAILED && mprotect(pages + GUARD, length, PROT_READ | PROT_WRITE) == 0);
+    call_on(calls, pages + GUARD, length);
+    EXPECT(munmap(pages, GUARD + length) == 0);
 }
 
 /* What the program links to at the first call is linked before, since the linker needs stack for that. */
@@ -273,10 +322,14 @@ int main(void)
             fprintf(stderr, "%s: %zu bytes of stack\n", CALLS_IN_TURN[i].name, used);
         EXPECT(used < CALLS_IN_TURN[i].most);
     }
-    try_small_stack();
+    desk_file();
+    desk_open();
+    try_on(desk_calls, SMALL_STACK);
+    desk_close();
+    try_on(desk_whole, WHOLE_STACK);
     EXPECT(!desk.live);
 #else
-    (void)CALLS_IN_TURN, (void)used_by, (void)link_all, (void)nothing, (void)try_small_stack;
+    (void)CALLS_IN_TURN, (void)used_by, (void)link_all, (void)nothing, (void)try_on, (void)desk_whole;
 #endif
     return ended("stack");
 }

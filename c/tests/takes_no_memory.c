@@ -8,7 +8,7 @@
 #include <stdlib.h>
 
 enum { PAGE = 4096, LEN = 8 * PAGE, FIRST_LEN = LEN / 2, TURNS = 4000, ANCHORS = 8, NO_ANCHOR = 64 };
-enum { HEAP_CALLS = 6, MAPPED_CALLS = 6, FLEX_CALLS = 14, WORDS = 2 * LEN / 512 };
+enum { HEAP_CALLS = 6, MAPPED_CALLS = 6, FLEX_CALLS = 14, WIDE_CALLS = 10, WORDS = 2 * LEN / 512 };
 
 _Static_assert(sizeof(struct heap_calls) == (1 + HEAP_CALLS) * sizeof(void *), "each call on a heap is made");
 _Static_assert(sizeof(struct flex_calls) == FLEX_CALLS * sizeof(void *), "each call on a slot is made");
@@ -32,6 +32,7 @@ COUNTED(aligned_alloc, (size_t alignment, size_t n), (alignment, n))
 static uint8_t memory[LEN], buffer[64];
 static uint64_t map[WORDS];
 static struct vf_slot slot;
+static struct vf_wide_slot wide;
 /* What a call tells, and the block that was claimed last. */
 static size_t number, other, block;
 /* How often a call was done, and how often it was refused. */
@@ -199,6 +200,45 @@ static void slots_take_none(const struct flex_calls *flex)
     expect_both(0, FLEX_CALLS);
 }
 
+static uint32_t call_wide(size_t len, uint32_t anchor, uint32_t call)
+{
+    switch (call) {
+    case 0:
+        return vf_flex_wide_alloc(memory, len, &wide, anchor, below(2000), &number);
+    case 1:
+        return vf_flex_wide_free(memory, len, &wide, anchor);
+    case 2:
+        return vf_flex_wide_size(memory, len, &wide, anchor, &number);
+    case 3:
+        return vf_flex_wide_extend(memory, len, &wide, anchor, below(2000));
+    case 4:
+        return vf_flex_wide_midextend(memory, len, &wide, anchor, below(100), some_amount(100));
+    case 5:
+        return vf_flex_wide_place(memory, len, &wide, anchor, &number);
+    case 6:
+        return vf_flex_wide_put(memory, len, &wide, anchor, below(100), buffer, sizeof buffer);
+    case 7:
+        return vf_flex_wide_read(memory, len, &wide, anchor, below(100), buffer, sizeof buffer);
+    case 8:
+        return vf_flex_wide_places(memory, len, &wide, &number, 1);
+    default:
+        return vf_flex_wide_budge(memory, len, &wide, below(90), &number);
+    }
+}
+
+static void wide_slots_take_none(void)
+{
+    start_counting();
+    EXPECT(vf_flex_start_with(memory, LEN, &wide, NO_ANCHOR - 1) == VF_BAD_ANCHOR);
+    for (int turn = 0; turn < TURNS; turn++) {
+        uint32_t call = below(WIDE_CALLS);
+        if (turn % 200 == 0)
+            EXPECT(vf_flex_start_with(memory, LEN, &wide, NO_ANCHOR) == VF_OK);
+        count(call, call_wide(below(20) ? LEN : 1, below(20) ? below(ANCHORS) : NO_ANCHOR, call));
+    }
+    expect_both(0, WIDE_CALLS);
+}
+
 /* Events on a sender, each told how its action ended: done, and refused. */
 static void senders_take_none(void)
 {
@@ -291,6 +331,7 @@ int main(void)
     mapped_heaps_take_none();
     slots_take_none(&TRUSTING_FLEX);
     slots_take_none(&CHECKED_FLEX);
+    wide_slots_take_none();
     senders_take_none();
     receivers_take_none();
     messages_take_none();

@@ -11,5 +11,7 @@ pub mod SegmentLaws
 pub mod OpeningLaws
 pub mod LineLaws
 pub mod AskLaws
+pub mod BlockEditLaws
+pub mod BlockReadLaws
 pub mod NextLaws
 pub mod Common

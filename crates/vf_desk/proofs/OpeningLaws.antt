@@ -1,5 +1,5 @@
 -- How a desk begins: calls that are refused, want of memory, and calls that are done.
-use Rattle.vf_desk.proofs.Common.{◌≡◌, ℕ, List, [], ◌∷◌, ◌++◌, length, Option, Some, None, inl, inr, refl, sym, ap, subst, ◌∙◌, ◌≢◌, ◌⊎◌, ◌==◌, ◌||◌, nat_lt}
+use Rattle.vf_desk.proofs.Common.{◌≡◌, ℕ, List, [], ◌∷◌, ◌++◌, length, Option, Some, None, inl, inr, refl, sym, ap, subst, ◌∙◌, ◌≢◌, ◌==◌, ◌||◌, nat_lt}
 use Rattle.vf_desk.proofs.Common.{not, is_some, if◌then◌else◌, Console, OpenDesk, console_in, is_name}
 use Rattle.vf_desk.specs.Opening.{Adds, IsFresh, Opens, Tries, file_status, opening_status}
 use Rattle.vf_desk.specs.SeenDesk.{files_in}
@@ -15,10 +15,6 @@ pub record IsNew (held : Option OpenDesk) (fresh : OpenDesk) : Type 0 where
   pub console : fresh.console ≡ None
   pub empty : held ≡ None
 
--- what was put into the handle: the open desk, or nothing for want of memory
-abbrev pub Puts : Option OpenDesk → OpenDesk → ℕ → Type 0
-Puts now open_desk result = ((result ≡ 0) × (now ≡ Some open_desk)) ⊎ ((result ≡ no_memory) × (now ≡ None))
-
 -- what could be tried could
 tried-zero : {tried status : ℕ} → Tries tried status → status ≡ 0 → tried ≡ 0
 tried-zero (inl is) zero = sym is ∙ zero
@@ -26,6 +22,40 @@ tried-zero (inr both) zero = both.0
 
 no_memory-some : no_memory ≢ 0
 no_memory-some e = cc
+
+-- an argument isn't good, or memory is refused for the open desk
+module _ {held : Option OpenDesk} (empty : held ≡ None) {fault : ℕ} where
+  module _ (name bytes : List ℕ) (is : fault ≡ file_status None name bytes) where
+    first-file-status : fault ≡ file_status held name bytes
+    first-file-status = is ∙ sym (ap (λ h. file_status h name bytes) empty)
+
+    pub adds-bad : fault ≢ 0 → Adds name bytes held held fault
+    adds-bad bad =
+        record { tried = inl first-file-status; files = λ zero. absurd (bad zero); closed = λ zero. absurd (bad zero); refused = λ _. refl }
+
+    pub adds-full : fault ≡ 0 → Adds name bytes held held no_memory
+    adds-full zero = record {
+      tried = inr (sym first-file-status ∙ zero, refl);
+      files = λ done. absurd (no_memory-some done);
+      closed = λ done. absurd (no_memory-some done);
+      refused = λ _. refl;
+    }
+
+  module _ (pages handle ref : ℕ) (is : fault ≡ opening_status None pages handle ref) where
+    first-open-status : fault ≡ opening_status held pages handle ref
+    first-open-status = is ∙ sym (ap (λ h. opening_status h pages handle ref) empty)
+
+    pub opens-bad : fault ≢ 0 → Opens pages handle ref held held fault
+    opens-bad bad =
+        record { tried = inl first-open-status; console = λ zero. absurd (bad zero); files = λ zero. absurd (bad zero); refused = λ _. refl }
+
+    pub opens-full : fault ≡ 0 → Opens pages handle ref held held no_memory
+    opens-full zero = record {
+      tried = inr (sym first-open-status ∙ zero, refl);
+      console = λ done. absurd (no_memory-some done);
+      files = λ done. absurd (no_memory-some done);
+      refused = λ _. refl;
+    }
 
 -- what a call on the new open desk came to, of one on the handle
 module _ {held : Option OpenDesk} {fresh : OpenDesk} (is : IsNew held fresh) where
@@ -49,18 +79,12 @@ module _ {held : Option OpenDesk} {fresh : OpenDesk} (is : IsNew held fresh) whe
     adds-first-refused bad =
         record { tried = file-tried; files = λ zero. absurd (bad zero); closed = λ zero. absurd (bad zero); refused = λ _. refl }
 
-    pub adds-first-done : {now : Option OpenDesk} {result : ℕ} → status ≡ 0 → Puts now new result → Adds name bytes held now result
-    adds-first-done {now} {result} zero (inl (done, put)) = record {
-      tried = inl (done ∙ sym (tried-zero file-tried zero));
+    pub adds-first-done : {now : Option OpenDesk} → status ≡ 0 → now ≡ Some new → Adds name bytes held now 0
+    adds-first-done {now} zero put = record {
+      tried = inl (sym (tried-zero file-tried zero));
       files = λ _. ap files_in put ∙ adds.files zero ∙ ap (λ l. l ++ (name, bytes) ∷ []) same-files;
       closed = λ _. ap console_in put ∙ adds.closed zero;
-      refused = λ bad. absurd (bad done);
-    }
-    adds-first-done {now} {result} zero (inr (full, left)) = record {
-      tried = inr (tried-zero file-tried zero, full);
-      files = λ done. absurd (no_memory-some (sym full ∙ done));
-      closed = λ done. absurd (no_memory-some (sym full ∙ done));
-      refused = λ _. left ∙ sym is.empty;
+      refused = λ bad. absurd (bad refl);
     }
 
   module _ {pages handle ref : ℕ} {new : OpenDesk} {status : ℕ} (opens : Opens pages handle ref (Some fresh) (Some new) status) where
@@ -75,18 +99,12 @@ module _ {held : Option OpenDesk} {fresh : OpenDesk} (is : IsNew held fresh) whe
     opens-first-refused bad =
         record { tried = open-tried; console = λ zero. absurd (bad zero); files = λ zero. absurd (bad zero); refused = λ _. refl }
 
-    pub opens-first-done : {now : Option OpenDesk} {result : ℕ} → status ≡ 0 → Puts now new result → Opens pages handle ref held now result
-    opens-first-done {now} {result} zero (inl (done, put)) =
+    pub opens-first-done : {now : Option OpenDesk} → status ≡ 0 → now ≡ Some new → Opens pages handle ref held now 0
+    opens-first-done {now} zero put =
         let opened = opens.console zero in
         record {
-          tried = inl (done ∙ sym (tried-zero open-tried zero));
+          tried = inl (sym (tried-zero open-tried zero));
           console = λ _. (opened.0, (ap console_in put ∙ opened.1.0, subst (λ l. IsFresh pages l handle ref opened.0) same-files opened.1.1));
           files = λ _. ap files_in put ∙ opens.files zero;
-          refused = λ bad. absurd (bad done);
+          refused = λ bad. absurd (bad refl);
         }
-    opens-first-done {now} {result} zero (inr (full, left)) = record {
-      tried = inr (tried-zero open-tried zero, full);
-      console = λ done. absurd (no_memory-some (sym full ∙ done));
-      files = λ done. absurd (no_memory-some (sym full ∙ done));
-      refused = λ _. left ∙ sym is.empty;
-    }

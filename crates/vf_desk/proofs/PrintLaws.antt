@@ -1,6 +1,6 @@
 -- What lent bytes have of a text that was printed into them.
 use Rattle.std.proofs.Common.{◌≡◌, ℕ, ◌≤◌, List, [], ◌++◌, length, Some, None, Result, Ok, Err, sym, ap, ◌∙◌, arith, take_all}
-use Rattle.std.specs.Prelude.{nat_le, drop, take, true, if◌then◌else◌}
+use Rattle.std.specs.Prelude.{nat_le, drop, true, if◌then◌else◌}
 use borrow.Author.Tests.{tests}
 use Rattle.rh_lines.proofs.TextLemmas.{writes_all, wrote}
 use Rattle.rh_lines.specs.Flow.{Puts}

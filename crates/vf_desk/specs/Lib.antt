@@ -1,3 +1,5 @@
+pub mod BlockEdits
+pub mod BlockReads
 pub mod CallOutcome
 pub mod Console
 pub mod DeskForms

@@ -6,6 +6,8 @@
 #![tactic(auto)]
 
 mod areas;
+mod block_edits;
+mod block_reads;
 mod c_heap;
 mod call_outcome;
 mod console;

@@ -5,18 +5,17 @@ ghost use Rattle.rh_defs.specs.Slot.{anchor_count};
 ghost use Rattle.rh_defs.specs.Questions.{area_items, blocks as blocks_on, heap as heap_on, show as show_on};
 ghost use Rattle.rh_defs.specs.Questions.{status as status_on};
 ghost use Rattle.rh_defs.specs.declared.sizes.TheConstants.{C_HEAP_START};
-ghost use Rattle.rh_defs.specs.Heap.{IsHeap};
 ghost use Rattle.rh_script.specs.NamedSlots.{heap_of_named};
 ghost use Rattle.rh_script.specs.Inner.SegmentsBehind.{item_end};
 ghost use Rattle.rh_tasks.specs.WorldLists.{segment_items_at};
 ghost use Rattle.vf_desk.specs.DeskItems.{as_area, as_block, blocks_listed, bytes_listed, incoming_in, listed_with};
 ghost use Rattle.vf_desk.specs.DeskItems.{outgoing_in, record_of, as_segment, segments_listed};
-ghost use Rattle.vf_desk.specs.Inner.DeskLists.{filled_from};
+ghost use Rattle.vf_desk.specs.Inner.DeskLists.{IsRun, filled_from};
 
 use crate::console::PagedWorld;
 use crate::items::{Listed, VfArea, VfBlock, VfRecord, VfSegment, listed_area};
 use arrayvec::ArrayVec;
-use rh_defs::sizes::{C_HEAP_START, HEAP_FIRST, SEGMENTS_AT_ONCE};
+use rh_defs::sizes::{C_HEAP_START, HEAP_FIRST};
 use rh_defs::{Anchor, Name, SegmentItem};
 
 /// Puts items into a slice from an index on, as many as there is room for.
@@ -58,20 +57,42 @@ pub fn list_blocks(world: &PagedWorld, name: &Name, to: &mut [VfBlock]) -> usize
     }
 }
 
-/// Up to 64 segments of the task's C heap, from the one that begins at a place on; none where no task has the name.
-fn segments_from(
+/// Segments that were put into a slice: how many, and the last one.
+#[derive(Clone, Copy)]
+pub struct SegmentRun {
+    pub count: usize,
+    pub last: SegmentItem,
+}
+
+/// Puts segments into a slice from an index on, as many as there is room for; None where there are none.
+fn put_run(items: &[SegmentItem], to: &mut [VfSegment], at: usize) -> Option<SegmentRun>
+    ensures list { to.new ≡ filled_from at (map as_segment items.now) to.old }
+    ensures told { IsRun items.now result }
+{
+    fill(items, to, at);
+    let last = items.last()?;
+    Some(SegmentRun {
+        count: items.len(),
+        last: *last,
+    })
+}
+
+/// Puts up to 64 segments of the task's C heap, from the one that begins at a place on, into a slice from an index on;
+/// None where there are none, or no task has the name. The list of them is looked at where it lies, and is not copied.
+fn list_run(
     world: &PagedWorld,
     name: &Name,
     place: u32,
-) -> ArrayVec<SegmentItem, SEGMENTS_AT_ONCE>
-    ensures items { result.items ≡ segment_items_at place (heap_of_named name.now world.now.desk) }
-    ensures heap { IsHeap (heap_of_named name.now world.now.desk) }
-    ensures short { (heap_of_named name.now world.now.desk).end < 2 ^ 23 }
+    to: &mut [VfSegment],
+    at: usize,
+) -> Option<SegmentRun>
+    ensures list { to.new ≡
+        filled_from at (map as_segment (segment_items_at place (heap_of_named name.now world.now.desk))) to.old }
+    ensures told { IsRun (segment_items_at place (heap_of_named name.now world.now.desk)) result }
 {
-    world.recall_spelling();
-    match world.segments_of(name, place) {
-        Ok(items) => items,
-        Err(_) => ArrayVec::new(),
+    match &world.segments_of(name, place) {
+        Ok(items) => put_run(items, to, at),
+        Err(_) => None,
     }
 }
 
@@ -94,14 +115,12 @@ pub fn list_segments(world: &PagedWorld, name: &Name, to: &mut [VfSegment]) -> u
         filled_front (map as_segment (segments_listed (listed_with (heap_on world.now.desk name.now)))) to.old }
     ensures count { result ≡ length (segments_listed (listed_with (heap_on world.now.desk name.now))) }
 {
+    world.recall_spelling();
     let mut place = HEAP_FIRST as u32;
     let mut count = 0;
-    let mut items = segments_from(world, name, place);
-    'places: while let Some(last) = items.last() {
-        place = place_behind(last);
-        fill(&items, to, count);
-        count += items.len();
-        items = segments_from(world, name, place);
+    'places: while let Some(found) = list_run(world, name, place, to, count) {
+        place = place_behind(&found.last);
+        count += found.count;
     }
     count
 }

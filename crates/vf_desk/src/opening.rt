@@ -1,9 +1,8 @@
 //! How a desk begins and ends.
-ghost use Rattle.std.specs.Prelude.{◌≡◌, ◌≤◌, ◌⊎◌, ◌++◌, ◌∷◌, [], false, None, Some, length, OnOk, OnErr};
+ghost use Rattle.std.specs.Prelude.{◌≡◌, ◌≤◌, ◌++◌, ◌∷◌, [], false, None, Some, length, IfSome, OnOk, OnErr};
 ghost use Rattle.rh_defs.specs.Files.{has_file};
-ghost use Rattle.vf_desk.specs.Opening.{Adds, Opens, opening_status};
+ghost use Rattle.vf_desk.specs.Opening.{Adds, Opens, file_status, opening_status};
 ghost use Rattle.rh_defs.specs.declared.sizes.TheConstants.{LONGEST_FILE};
-ghost use Rattle.vf_desk.specs.DeskStatus.{no_memory};
 
 use crate::console::Console;
 use crate::desk::VfDesk;
@@ -32,12 +31,32 @@ fn first_file(alloc: Global, desk: &mut VfDesk, name: &[u8], bytes: &[u8]) -> u3
     requires { desk.old.handle.open_desk ≡ None }
     ensures { Adds name.now bytes.now desk.old.handle.open_desk desk.new.handle.open_desk result }
 {
-    let mut open_desk = OpenDesk::new(alloc);
+    let fault = first_file_status(name, bytes);
+    if fault != OK {
+        return fault;
+    }
+    let Some(mut open_desk) = OpenDesk::new_box(alloc) else {
+        return NO_MEMORY;
+    };
     let status = open_desk.add_file(alloc, name, bytes);
     if status != OK {
         return status;
     }
-    put_new(alloc, desk, open_desk)
+    desk.put(open_desk);
+    OK
+}
+
+/// Whether a file can be the first one, if memory is granted.
+fn first_file_status(name: &[u8], bytes: &[u8]) -> u32
+    ensures { result ≡ file_status None name.now bytes.now }
+{
+    if name_of(name).is_none() {
+        return BAD_ARGUMENT;
+    }
+    if bytes.len() > LONGEST_FILE {
+        return BAD_LENGTH;
+    }
+    OK
 }
 
 /// Opens a desk of 8 to 1,024 pages with the files that were added, whose first handle and ref are these, from 1 on.
@@ -64,12 +83,19 @@ fn open_new(alloc: Global, desk: &mut VfDesk, pages: u32, first_handle: u32, fir
     requires { desk.old.handle.open_desk ≡ None }
     ensures { Opens pages first_handle first_ref desk.old.handle.open_desk desk.new.handle.open_desk result }
 {
-    let mut open_desk = OpenDesk::new(alloc);
+    let fault = first_status(pages, first_handle, first_ref);
+    if fault != OK {
+        return fault;
+    }
+    let Some(mut open_desk) = OpenDesk::new_box(alloc) else {
+        return NO_MEMORY;
+    };
     let status = open_desk.open(alloc, pages, first_handle, first_ref);
     if status != OK {
         return status;
     }
-    put_new(alloc, desk, open_desk)
+    desk.put(open_desk);
+    OK
 }
 
 /// Closes a desk, and gives back all that it took. A closed one with no file stays as it is.
@@ -82,30 +108,25 @@ pub extern "C" fn vf_desk_close(alloc: Global, desk: &mut VfDesk) -> u32
     OK
 }
 
-/// Puts a open desk into a handle that has nothing, or answers that memory is refused.
-fn put_new(alloc: Global, desk: &mut VfDesk, open_desk: OpenDesk) -> u32
-    requires { desk.old.handle.open_desk ≡ None }
-    ensures { ((result ≡ 0) × (desk.new.handle.open_desk ≡ Some open_desk)) ⊎
-        ((result ≡ no_memory) × (desk.new.handle.open_desk ≡ None)) }
-{
-    match Box::new(alloc, open_desk) {
-        Ok(boxed) => {
-            desk.put(boxed);
-            OK
-        }
-        Err(_) => NO_MEMORY,
-    }
-}
-
 impl OpenDesk {
     /// No file, and no desk that is open.
-    pub fn new(alloc: Global) -> OpenDesk
+    fn new(alloc: Global) -> OpenDesk
         ensures files { result.files ≡ [] }
         ensures console { result.console ≡ None }
     {
         OpenDesk {
             files: Files::new(alloc),
             console: None,
+        }
+    }
+
+    /// A new one in a box; none where memory is refused. What is large is built there later, and never moves.
+    fn new_box(alloc: Global) -> Option<Box<OpenDesk>>
+        ensures { IfSome result (λ open_desk. (open_desk.value.files ≡ []) × (open_desk.value.console ≡ None)) }
+    {
+        match Box::new(alloc, OpenDesk::new(alloc)) {
+            Ok(open_desk) => Some(open_desk),
+            Err(_) => None,
         }
     }
 
@@ -157,6 +178,13 @@ fn opening_status(open_desk: &OpenDesk, pages: u32, first_handle: u32, first_ref
     if open_desk.console.is_some() {
         return OPEN;
     }
+    first_status(pages, first_handle, first_ref)
+}
+
+/// Whether a handle that has nothing can be opened so, if memory is granted.
+fn first_status(pages: u32, first_handle: u32, first_ref: u32) -> u32
+    ensures { result ≡ opening_status None pages first_handle first_ref }
+{
     let pages = pages as usize;
     if pages < MIN_PAGES || MAX_PAGES < pages || first_handle == 0 || first_ref == 0 {
         return BAD_ARGUMENT;

@@ -85,12 +85,46 @@ pub extern "C" fn vf_desk_heap(
         count.new ≡ done_or (called s (in_form (Command.Ask (Question.Heap name.now))))
         (length (segments_listed (list_asked s (Question.Heap name.now)))) count.old }
 {
-    let called = desk.step(alloc, &forms::heap(name));
+    let n = put_segments(alloc, desk, name, segments);
+    tell_sums(alloc, desk, name, n, sums, count)
+}
+
+/// Puts the segments of the task's C heap into a slice, and answers how many there are: none on a closed desk. Its list
+/// lies on the stack beside nothing else that is large.
+#[inline(never)]
+fn put_segments(alloc: Global, desk: &mut VfDesk, name: &[u8], segments: &mut [VfSegment]) -> usize
+    ensures same { desk.new.handle.open_desk ≡ desk.old.handle.open_desk }
+    ensures list { (s : Option Desk) → IsSeenDesk desk.old s →
+        segments.new ≡ filled_front (map as_segment (segments_listed
+        (list_asked s (Question.Heap name.now)))) segments.old }
+    ensures count { (s : Option Desk) → IsSeenDesk desk.old s →
+        result ≡ length (segments_listed (list_asked s (Question.Heap name.now))) }
+{
     let Some(open_desk) = desk.take(alloc) else {
-        return called.status();
+        return 0;
     };
     let n = open_desk.segments(name, segments);
     desk.put(open_desk);
+    n
+}
+
+/// Tells the sums over the task's C heap, and how many segments there are.
+#[inline(never)]
+fn tell_sums(
+    alloc: Global,
+    desk: &mut VfDesk,
+    name: &[u8],
+    n: usize,
+    sums: &mut VfHeapSums,
+    count: &mut usize,
+) -> u32
+    ensures asks { Asks (Question.Heap name.now) desk.old desk.new result }
+    ensures sums { (s : Option Desk) → IsSeenDesk desk.old s →
+        sums.new ≡ sums_or (called s (in_form (Command.Ask (Question.Heap name.now)))) sums.old }
+    ensures count { (s : Option Desk) → IsSeenDesk desk.old s →
+        count.new ≡ done_or (called s (in_form (Command.Ask (Question.Heap name.now)))) n count.old }
+{
+    let called = desk.step(alloc, &forms::heap(name));
     called.give_count(n, count);
     called.give_sums(sums)
 }
