@@ -9,3 +9,4 @@ mod PageLaws
 mod ShareLaws
 mod TaskLaws
 mod StandLaws
+mod FactLaws

@@ -6,14 +6,14 @@ ghost use Rattle.rh_defs.specs.declared.sizes.TheConstants.{MAX_PAGES, MIN_PAGES
 ghost use Rattle.rh_pictures.specs.Mapped.{Mapped, MappedSoFar, MappedUntil};
 ghost use Rattle.rh_figure.specs.Map.{map_start};
 
-use crate::native::page_store;
+use crate::native::native_memory;
 use crate::world::ScriptWorld;
 use rh_defs::Files;
 use rh_lines::{Sink, Source};
 use rh_pictures::map_script;
-use rh_session::{RunFault, Status};
+use rh_session::{Buffers, RunFault, Status};
 use rh_store::Sited;
-use rh_tasks::NamedFiles;
+use rh_tasks::{NamedFiles, World};
 use std::alloc::Global;
 
 /// Runs a script over a fresh desk on a store that nobody has used, of 8 to 1,024 pages, and writes its map: each step,
@@ -25,6 +25,7 @@ pub fn map_over<S: Sited + Drop, F: NamedFiles + Drop, R: Source, W: Sink>(
     reader: &mut R,
     writer: &mut W,
     marked: bool,
+    buffers: &mut Buffers,
 ) -> Result<Status, RunFault>
     requires fresh { S.memory store ≡ fresh (S.memory store).pages }
     requires least { MIN_PAGES ≤ (S.memory store).pages }
@@ -56,11 +57,14 @@ pub fn map_over<S: Sited + Drop, F: NamedFiles + Drop, R: Source, W: Sink>(
     // However it ends, at most so many reads gave bytes.
     ensures reads { (R.input reader.new).reads ≤ MOST_READS }
 {
-    map_script(ScriptWorld::new(store, files), marked, reader, writer)
+    let mut world = World::new(store, files);
+    let world = ScriptWorld { world: &mut world };
+    map_script(world, marked, reader, writer, buffers)
 }
 
 /// Runs a script over a fresh desk of 8 to 1,024 pages, and writes its map: each step, or marked steps alone, each
 /// before it reads on. It takes memory before its first read only, and gives up after 1,000,000 reads that gave bytes.
+#[inline(never)]
 pub fn draw_map<R: Source, W: Sink>(
     alloc: Global,
     files: Files,
@@ -100,8 +104,11 @@ pub fn draw_map<R: Source, W: Sink>(
     // However it ends, at most so many reads gave bytes.
     ensures reads { (R.input reader.new).reads ≤ MOST_READS }
 {
-    match page_store(alloc, pages) {
-        Ok(store) => map_over(store, files, reader, writer, marked),
+    match native_memory(alloc, files, pages) {
+        Ok((mut world, mut buffers)) => {
+            let world = ScriptWorld { world: &mut world };
+            map_script(world, marked, reader, writer, &mut buffers)
+        }
         Err(_) => Err(RunFault::NoMemory),
     }
 }

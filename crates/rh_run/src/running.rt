@@ -8,13 +8,13 @@ ghost use Rattle.rh_run.specs.Safely.{RanSafely};
 ghost use Rattle.rh_session.specs.Outcome.{Answered, Finished, BrokeOff};
 ghost use Rattle.rh_defs.specs.declared.sizes.TheConstants.{MAX_PAGES, MIN_PAGES, MOST_READS};
 
-use crate::native::page_store;
+use crate::native::native_memory;
 use crate::world::ScriptWorld;
 use rh_defs::Files;
 use rh_lines::{Sink, Source};
-use rh_session::{RunFault, Status, run_script};
+use rh_session::{Buffers, RunFault, Status, run_script};
 use rh_store::Store;
-use rh_tasks::NamedFiles;
+use rh_tasks::{NamedFiles, World};
 use std::alloc::Global;
 
 /// Runs a script over a fresh desk on a store that nobody has used, of 8 to 1,024 pages, and writes the answer of each
@@ -24,6 +24,7 @@ pub fn run_over<S: Store + Drop, F: NamedFiles + Drop, R: Source, W: Sink>(
     files: F,
     reader: &mut R,
     writer: &mut W,
+    buffers: &mut Buffers,
 ) -> Result<Status, RunFault>
     requires fresh { S.memory store ≡ fresh (S.memory store).pages }
     requires least { MIN_PAGES ≤ (S.memory store).pages }
@@ -63,11 +64,14 @@ pub fn run_over<S: Store + Drop, F: NamedFiles + Drop, R: Source, W: Sink>(
     // However it ends, at most so many reads gave bytes.
     ensures reads { (R.input reader.new).reads ≤ MOST_READS }
 {
-    run_script(ScriptWorld::new(store, files), reader, writer)
+    let mut world = World::new(store, files);
+    let world = ScriptWorld { world: &mut world };
+    run_script(world, reader, writer, buffers)
 }
 
 /// Runs a script over a fresh desk of 8 to 1,024 pages, and writes the answer of each line before it reads on.
 /// It takes memory before its first read only, and gives up after 1,000,000 reads that gave bytes.
+#[inline(never)]
 pub fn run<R: Source, W: Sink>(
     alloc: Global,
     files: Files,
@@ -115,8 +119,11 @@ pub fn run<R: Source, W: Sink>(
     // However it ends, at most so many reads gave bytes.
     ensures reads { (R.input reader.new).reads ≤ MOST_READS }
 {
-    match page_store(alloc, pages) {
-        Ok(store) => run_over(store, files, reader, writer),
+    match native_memory(alloc, files, pages) {
+        Ok((mut world, mut buffers)) => {
+            let world = ScriptWorld { world: &mut world };
+            run_script(world, reader, writer, &mut buffers)
+        }
         Err(_) => Err(RunFault::NoMemory),
     }
 }

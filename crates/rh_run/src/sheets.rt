@@ -6,14 +6,14 @@ ghost use Rattle.rh_defs.specs.Runs.{start};
 ghost use Rattle.rh_defs.specs.declared.sizes.TheConstants.{MAX_PAGES, MIN_PAGES, MOST_READS};
 ghost use Rattle.rh_pictures.specs.Painted.{Painted, PaintedSoFar, PaintedUntil};
 
-use crate::native::page_store;
+use crate::native::native_memory;
 use crate::world::ScriptWorld;
 use rh_defs::Files;
 use rh_lines::{Sink, Source};
 use rh_pictures::paint_script;
-use rh_session::{RunFault, Status};
+use rh_session::{Buffers, RunFault, Status};
 use rh_store::Sited;
-use rh_tasks::NamedFiles;
+use rh_tasks::{NamedFiles, World};
 use std::alloc::Global;
 
 /// Runs a script with a name over a fresh desk on a store that nobody has used, of 8 to 1,024 pages, and writes its
@@ -26,6 +26,7 @@ pub fn sheet_over<S: Sited + Drop, F: NamedFiles + Drop, R: Source, W: Sink>(
     writer: &mut W,
     marked: bool,
     name: &[u8],
+    buffers: &mut Buffers,
 ) -> Result<Status, RunFault>
     requires fresh { S.memory store ≡ fresh (S.memory store).pages }
     requires least { MIN_PAGES ≤ (S.memory store).pages }
@@ -57,12 +58,15 @@ pub fn sheet_over<S: Sited + Drop, F: NamedFiles + Drop, R: Source, W: Sink>(
     // However it ends, at most so many reads gave bytes.
     ensures reads { (R.input reader.new).reads ≤ MOST_READS }
 {
-    paint_script(ScriptWorld::new(store, files), marked, name, reader, writer)
+    let mut world = World::new(store, files);
+    let world = ScriptWorld { world: &mut world };
+    paint_script(world, marked, name, reader, writer, buffers)
 }
 
 /// Runs a script with a name over a fresh desk of 8 to 1,024 pages, and writes its sheet: its beginning, and each step,
 /// or marked steps alone, each before it reads on. It takes memory before it writes or reads only, and gives up after
 /// 1,000,000 reads that gave bytes.
+#[inline(never)]
 pub fn draw_sheet<R: Source, W: Sink>(
     alloc: Global,
     files: Files,
@@ -103,8 +107,11 @@ pub fn draw_sheet<R: Source, W: Sink>(
     // However it ends, at most so many reads gave bytes.
     ensures reads { (R.input reader.new).reads ≤ MOST_READS }
 {
-    match page_store(alloc, pages) {
-        Ok(store) => sheet_over(store, files, reader, writer, marked, name),
+    match native_memory(alloc, files, pages) {
+        Ok((mut world, mut buffers)) => {
+            let world = ScriptWorld { world: &mut world };
+            paint_script(world, marked, name, reader, writer, &mut buffers)
+        }
         Err(_) => Err(RunFault::NoMemory),
     }
 }

@@ -44,10 +44,10 @@ fn block_address(start: usize, place: u32) -> u32
     (start + WORD) as u32 + place
 }
 
-impl<S: Sited, F: NamedFiles> Sight for ScriptWorld<S, F> {
+impl<'a, S: Sited, F: NamedFiles> Sight for ScriptWorld<'a, S, F> {
     ghost use Rattle.std.specs.Prelude.{◌≡◌};
 
-    ghost desk = { λ w. w.world.desk };
+    ghost desk = { λ w. w.world.now.desk };
 
     fn recall_desk(&self) {
         self.world.recall_spelling();
@@ -179,10 +179,10 @@ impl<S: Sited, F: NamedFiles> Sight for ScriptWorld<S, F> {
     }
 }
 
-impl<S: Sited + Drop, F: NamedFiles + Drop> Drawn for ScriptWorld<S, F> {
+impl<'a, S: Sited + Drop, F: NamedFiles + Drop> Drawn for ScriptWorld<'a, S, F> {
     ghost use Rattle.rh_tasks.proofs.Reorders.{reordered-refl};
 
-    ghost seen = { λ w. reordered-refl w.world.desk };
+    ghost seen = { λ w. reordered-refl w.world.now.desk };
 
     ghost alike = { λ w d h. h };
 }

@@ -18,7 +18,7 @@ use rh_lines::{Sink, WriteFailed};
 use rh_pictures::{map_whole, paint_whole};
 use rh_session::{Status, run_whole};
 use rh_store::{Sited, Store};
-use rh_tasks::NamedFiles;
+use rh_tasks::{NamedFiles, World};
 
 /// Runs a script over a fresh desk on a store that nobody has used, of 8 to 1,024 pages, and writes the answer of each
 /// line. It takes no memory, and fails only where the writer failed or took none of what it was offered.
@@ -44,7 +44,9 @@ pub fn replies_of<S: Store + Drop, F: NamedFiles + Drop, W: Sink>(
     ensures write_failed { IfErr result (λ fault. BrokeOff (start (S.memory store).pages (F.contents files))
         (unread script.now) (W.output writer.old) (W.output writer.new)) }
 {
-    run_whole(ScriptWorld::new(store, files), script, writer)
+    let mut world = World::new(store, files);
+    let world = ScriptWorld { world: &mut world };
+    run_whole(world, script, writer)
 }
 
 /// Runs a script over a fresh desk, as `replies_of` does, and writes its map: each step, or marked steps alone.
@@ -69,7 +71,9 @@ pub fn map_of<S: Sited + Drop, F: NamedFiles + Drop, W: Sink>(
         (map_start (S.memory store).pages (F.contents files)) (unread script.now) (unread []) (W.output writer.old)
         (W.output writer.new)) }
 {
-    map_whole(ScriptWorld::new(store, files), marked, script, writer)
+    let mut world = World::new(store, files);
+    let world = ScriptWorld { world: &mut world };
+    map_whole(world, marked, script, writer)
 }
 
 /// Runs a script over a fresh desk, as `replies_of` does, and writes its sheet under a name: the beginning, and each
@@ -96,5 +100,7 @@ pub fn sheet_of<S: Sited + Drop, F: NamedFiles + Drop, W: Sink>(
         (start (S.memory store).pages (F.contents files)) (unread script.now) (unread []) (W.output writer.old)
         (W.output writer.new)) }
 {
-    paint_whole(ScriptWorld::new(store, files), marked, name, script, writer)
+    let mut world = World::new(store, files);
+    let world = ScriptWorld { world: &mut world };
+    paint_whole(world, marked, name, script, writer)
 }

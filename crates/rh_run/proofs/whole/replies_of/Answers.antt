@@ -13,4 +13,4 @@ returns-clause-safe g c =
     let files = g.F.NamedFiles.contents c.args.files in
     let d : Desk = start pages files in
     IfOk-weaker c.run_whole.result _ _ (λ status finished. finished_safely pages files c.requires.least c.requires.most {before = unread c.args.script.now}
-    {after = unread []} {new = g.W.Sink.output c.run_whole.new.writer} status (finished d (same-desk c.new.ensures))) c.run_whole.ensures.ok
+    {after = unread []} {new = g.W.Sink.output c.run_whole.new.writer} status (finished d (same-desk c.new-world.ensures))) c.run_whole.ensures.ok

@@ -6,7 +6,7 @@ use Rattle.rh_run.proofs.sight.ScriptWorldSight.page_list.Goals as goal
 pub push_free-requires : goal.push_free-requires
 push_free-requires g c =
     let store = c.store-store.result.now in
-    let world = c.args.self.now.world in
+    let world = c.args.self.now.world.now in
     let is = c.recall_spelling.ensures in
     let shares = g.met.S.Sited.shared store in
     let fits = free-fits _ _ _ shares _ world c.store-store.ensures is.spelled is.desk in
@@ -23,7 +23,7 @@ loop-area-init g c =
 pub push_area-requires : goal.push_area-requires
 push_area-requires g c =
     let store = c.store-store.result.now in
-    let world = c.args.self.now.world in
+    let world = c.args.self.now.world.now in
     let is = c.recall_spelling.ensures in
     let shares = g.met.S.Sited.shared store in
     let stands = same-areas (g.S.Words.memory store) world _ _ c.as_slice-area-items.ensures.value c.store-store.ensures in
@@ -37,7 +37,7 @@ push_area-requires g c =
 pub loop-area-preserved : goal.loop-area-preserved
 loop-area-preserved g c =
     let store = c.store-store.result.now in
-    let world = c.args.self.now.world in
+    let world = c.args.self.now.world.now in
     let is = c.recall_spelling.ensures in
     let shares = g.met.S.Sited.shared store in
     let stands = same-areas (g.S.Words.memory store) world _ _ c.as_slice-area-items.ensures.value c.store-store.ensures in
@@ -47,7 +47,7 @@ loop-area-preserved g c =
 pub returns : goal.returns
 returns g c =
     let store = c.store-store.result.now in
-    let world = c.args.self.now.world in
+    let world = c.args.self.now.world.now in
     let is = c.recall_spelling.ensures in
     let shares = g.met.S.Sited.shared store in
     let stands = same-areas (g.S.Words.memory store) world _ _ c.as_slice-area-items.ensures.value c.store-store.ensures in

@@ -6,7 +6,7 @@ use Rattle.rh_run.proofs.sight.ScriptWorldSight.read_heap.Goals as goal
 
 pub block_address-address-requires : goal.block_address-address-requires
 block_address-address-requires g c =
-    let d = c.args.self.now.world.desk in
+    let d = c.args.self.now.world.now.desk in
     let t = there c.in-Some.handle _ c.in-Some.ensures.handle in
     let wanted = c.requires.block in
     let room =
@@ -16,7 +16,7 @@ block_address-address-requires g c =
 
 pub unwrap-requires : goal.unwrap-requires
 unwrap-requires g c =
-    let d = c.args.self.now.world.desk in
+    let d = c.args.self.now.world.now.desk in
     let t = there c.in-Some.handle _ c.in-Some.ensures.handle in
     let wanted = c.requires.block in
     let here = in-heap d c.args.heap c.in-Task.i t.0 c.args.place wanted.0 c.in-Task.is t.1 wanted.1 in
@@ -26,7 +26,7 @@ unwrap-requires g c =
 
 pub returns-in-Some : goal.returns-in-Some
 returns-in-Some g c = λ bytes has.
-    let d = c.args.self.now.world.desk in
+    let d = c.args.self.now.world.now.desk in
     let t = there c.in-Some.handle _ c.in-Some.ensures.handle in
     let wanted = c.requires.block in
     let is = task-seen c.recall_spelling.ensures.desk c.in-Task.i t.0 t.1 in
@@ -38,7 +38,7 @@ returns-in-Some g c = λ bytes has.
 
 pub block_address-address-requires-in-Module : goal.block_address-address-requires-in-Module
 block_address-address-requires-in-Module g c =
-    let d = c.args.self.now.world.desk in
+    let d = c.args.self.now.world.now.desk in
     let wanted = c.requires.block in
     let room =
     block-room _ c.args.place wanted.0 (in-module d c.args.heap c.args.place wanted.0 c.in-Module.is wanted.1) (module-seen c.recall_spelling.ensures.desk) in
@@ -46,7 +46,7 @@ block_address-address-requires-in-Module g c =
 
 pub unwrap-requires-in-Module : goal.unwrap-requires-in-Module
 unwrap-requires-in-Module g c =
-    let d = c.args.self.now.world.desk in
+    let d = c.args.self.now.world.now.desk in
     let wanted = c.requires.block in
     let here = in-module d c.args.heap c.args.place wanted.0 c.in-Module.is wanted.1 in
     let free = subst (λ (h : HeapOf). SeesFree h c.args.place d) c.in-Module.is c.requires.free in
@@ -56,7 +56,7 @@ unwrap-requires-in-Module g c =
 
 pub returns-in-Module : goal.returns-in-Module
 returns-in-Module g c = λ bytes has.
-    let d = c.args.self.now.world.desk in
+    let d = c.args.self.now.world.now.desk in
     let wanted = c.requires.block in
     let is = module-seen c.recall_spelling.ensures.desk in
     let first = in-module d c.args.heap c.args.place wanted.0 c.in-Module.is wanted.1 in

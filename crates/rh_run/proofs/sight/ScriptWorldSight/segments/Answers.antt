@@ -11,14 +11,14 @@ use Rattle.rh_run.proofs.sight.ScriptWorldSight.segments.Goals as goal
 
 pub unwrap-requires : goal.unwrap-requires
 unwrap-requires g c =
-    let d = c.args.self.now.world.desk in
+    let d = c.args.self.now.world.now.desk in
     let t = there c.in-Some.handle _ c.in-Some.ensures.handle in
     granted-none c.segments_in.result _ (segment_items_at c.args.place t.0.slot.heap) c.segments_in.ensures.err
     (segments-there d _ t.0 (c.in-Some.ensures.live ∙ t.1) c.args.place)
 
 pub returns-in-Some : goal.returns-in-Some
 returns-in-Some g c =
-    let d = c.args.self.now.world.desk in
+    let d = c.args.self.now.world.now.desk in
     let t = there c.in-Some.handle _ c.in-Some.ensures.handle in
     let told =
     granted-if _ c.segments_in.result c.unwrap.result _ (segment_items_at c.args.place t.0.slot.heap) c.segments_in.ensures.ok c.unwrap.ensures
@@ -31,7 +31,7 @@ returns-in-Some g c =
 
 pub returns-in-Module : goal.returns-in-Module
 returns-in-Module g c =
-    let d = c.args.self.now.world.desk in
+    let d = c.args.self.now.world.now.desk in
     let here =
     items-from module_start d.post.heap c.args.place c.module_segments.result.items
     (seen c.recall_spelling.ensures.desk heap_of.Module d.post.heap refl).is.tidy c.module_segments.ensures in

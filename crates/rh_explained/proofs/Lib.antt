@@ -1,0 +1,4 @@
+mod ExplainedRows
+pub mod SaidLemmas
+pub mod ShownLemmas
+pub mod WordLemmas

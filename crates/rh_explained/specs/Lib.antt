@@ -1,0 +1,10 @@
+pub mod CommandKinds
+pub mod Explained
+pub mod Explanations
+pub mod Help
+pub mod KindTable
+pub mod SaidLines
+pub mod Sentences
+pub mod ShownBytes
+pub mod Subjects
+pub mod WordKinds

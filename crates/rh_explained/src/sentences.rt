@@ -1,0 +1,103 @@
+//! Why commands are refused, in words, and what helps.
+
+ghost use Rattle.std.specs.Prelude.{◌≡◌};
+ghost use Rattle.rh_explained.specs.Sentences.{help_for as help_text, why as why_text};
+ghost use Rattle.rh_defs.specs.Text.{refusal_name as name_text};
+
+use rh_defs::Refusal;
+
+/// Why a command is refused.
+pub fn why(refusal: Refusal) -> &'static [u8]
+    ensures { result.now ≡ why_text refusal }
+{
+    match refusal {
+        Refusal::NameInUse => b"a live task has this name already",
+        Refusal::NoName => b"no live task has this name",
+        Refusal::TooManyTasks => b"32 tasks are live, and there may be no more",
+        Refusal::NoHandles => b"the last handle has been given",
+        Refusal::NoFile => b"no file has this name",
+        Refusal::NoBlock => b"this anchor has no block",
+        Refusal::AnchorInUse => b"this anchor has a block already",
+        Refusal::NotABlock => b"no used block begins at this address",
+        Refusal::NotYours => b"a message lies in this block of the module area",
+        Refusal::Busy => b"a transfer uses the block",
+        Refusal::NotOpen => b"no such transfer can be given up",
+        Refusal::NothingSent => b"the task has sent no message yet",
+        Refusal::BadRange => b"offset or bytes lie outside the block",
+        Refusal::BadSize => b"a block of a heap has at least 1 byte",
+        Refusal::ExcessiveShrink => b"the area would lose more than it can",
+        Refusal::NoTask => b"the task that this is for isn't live",
+        Refusal::NoRefs => b"the last ref has been given",
+        Refusal::QueueFull => b"256 messages are live, and there may be no more",
+        Refusal::NoBudge => b"the C heap must grow for this, and budging is off",
+        Refusal::NoRoom => b"the pool has too few free pages",
+        Refusal::NoArea => b"no area has this number",
+        Refusal::TooManyAreas => b"32 areas are made, and there may be no more",
+        Refusal::NoNumbers => b"the last number of an area has been given",
+        Refusal::TooBig => b"the area would have more pages than it may",
+    }
+}
+
+/// What helps then, where that is clear.
+pub fn help_for(refusal: Refusal) -> &'static [u8]
+    ensures { result.now ≡ help_text refusal }
+{
+    match refusal {
+        Refusal::NameInUse => b"  take another name, or kill that task first\n",
+        Refusal::NoName => b"  start it by task NAME BUF; upper and lower case differ\n",
+        Refusal::TooManyTasks => b"  kill a task first\n",
+        Refusal::NoHandles => b"",
+        Refusal::NoFile => b"  name it behind the script, as NAME=PATH\n",
+        Refusal::NoBlock => b"  alloc or load puts a block there\n",
+        Refusal::AnchorInUse => b"  take another anchor, or free that block first\n",
+        Refusal::NotABlock => b"  claim answered the address, and heap lists those of the C heap\n",
+        Refusal::NotYours => b"  a block of messages goes when they are taken\n",
+        Refusal::Busy => b"  poll until the transfer has ended, or cancel it\n",
+        Refusal::NotOpen => b"  status lists the transfers\n",
+        Refusal::NothingSent => b"",
+        Refusal::BadRange => b"  blocks lists the sizes, and extend makes a block longer\n",
+        Refusal::BadSize => b"",
+        Refusal::ExcessiveShrink => b"  areas lists the pages of each area\n",
+        Refusal::NoTask => b"  start the recipient first\n",
+        Refusal::NoRefs => b"",
+        Refusal::QueueFull => b"  let tasks poll\n",
+        Refusal::NoBudge => b"  allow it by budge NAME on\n",
+        Refusal::NoRoom => b"  areas lists the pages; free some, or begin with more by --pages\n",
+        Refusal::NoArea => b"  areas lists the numbers, and make makes an area\n",
+        Refusal::TooManyAreas => b"  remove an area first\n",
+        Refusal::NoNumbers => b"",
+        Refusal::TooBig => b"  make an area that may have more by make MAX\n",
+    }
+}
+
+/// The name of a refusal.
+pub fn refusal_name(refusal: Refusal) -> &'static [u8]
+    ensures { result.now ≡ name_text refusal }
+{
+    match refusal {
+        Refusal::NameInUse => b"NameInUse",
+        Refusal::NoName => b"NoName",
+        Refusal::TooManyTasks => b"TooManyTasks",
+        Refusal::NoHandles => b"NoHandles",
+        Refusal::NoFile => b"NoFile",
+        Refusal::NoBlock => b"NoBlock",
+        Refusal::AnchorInUse => b"AnchorInUse",
+        Refusal::NotABlock => b"NotABlock",
+        Refusal::NotYours => b"NotYours",
+        Refusal::Busy => b"Busy",
+        Refusal::NotOpen => b"NotOpen",
+        Refusal::NothingSent => b"NothingSent",
+        Refusal::BadRange => b"BadRange",
+        Refusal::BadSize => b"BadSize",
+        Refusal::ExcessiveShrink => b"ExcessiveShrink",
+        Refusal::NoTask => b"NoTask",
+        Refusal::NoRefs => b"NoRefs",
+        Refusal::QueueFull => b"QueueFull",
+        Refusal::NoBudge => b"NoBudge",
+        Refusal::NoRoom => b"NoRoom",
+        Refusal::NoArea => b"NoArea",
+        Refusal::TooManyAreas => b"TooManyAreas",
+        Refusal::NoNumbers => b"NoNumbers",
+        Refusal::TooBig => b"TooBig",
+    }
+}
