@@ -134,12 +134,15 @@ fn runs_and_checks_are_refused_memory_in_turn(rt: HostRuntime) -> Result<(), Fai
 /// What `clap` says of a subcommand that there isn't.
 const NO_SUBCOMMAND: &str = "\
 error: unrecognized subcommand 'walk'
+  to run a script: vervainfile run walk
 
 Usage: vervainfile run [--pages N] SCRIPT [NAME=PATH ...]
+       vervainfile explain [--pages N] SCRIPT [NAME=PATH ...]
        vervainfile map [--pages N] [--marked] SCRIPT [NAME=PATH ...]
        vervainfile draw [--pages N] [--marked] SCRIPT [NAME=PATH ...]
        vervainfile check [--slot] FILE
-       vervainfile                 (with no words: the script on standard input, over 64 pages)
+       vervainfile help COMMAND  (one of these, or of a script, as alloc)
+       vervainfile               (with no words: the script on standard input)
 
 For more information, try '--help'.
 ";
@@ -156,30 +159,34 @@ const HELP: &str = "\
 The memory of a desktop, shared by its tasks
 
 Usage: vervainfile run [--pages N] SCRIPT [NAME=PATH ...]
+       vervainfile explain [--pages N] SCRIPT [NAME=PATH ...]
        vervainfile map [--pages N] [--marked] SCRIPT [NAME=PATH ...]
        vervainfile draw [--pages N] [--marked] SCRIPT [NAME=PATH ...]
        vervainfile check [--slot] FILE
-       vervainfile                 (with no words: the script on standard input, over 64 pages)
+       vervainfile help COMMAND  (one of these, or of a script, as alloc)
+       vervainfile               (with no words: the script on standard input)
 
 Commands:
-  run    Run a script and print its replies
-  map    Run a script and print a map of memory after each step
-  draw   Run a script and print a page of HTML with a figure of memory after each step
-  check  Say whether the bytes of a file are a heap or a slot, and what it consists of
-  help   Print this message or the help of the given subcommand(s)
+  run      Run a script and print its replies
+  explain  Run a script and say of each bad line and each refused command what was wrong
+  map      Run a script and print a map of memory after each step
+  draw     Run a script and print a page of HTML with a figure of memory after each step
+  check    Say whether the bytes of a file are a heap or a slot, and what it consists of
+  help     Print this message or the help of the given subcommand(s)
 
 Options:
   -h, --help     Print help
   -V, --version  Print version
 
-With no words at all the script on standard input is run, over 64 pages and without files.
+With no words at all the script on standard input is run, over 64 pages and
+without files.
 
 Example:
   vervainfile run --pages 8 hello.desk picture=logo.spr
 
 Exit status:
   0  each line was good, or the bytes are a heap, or with --slot a slot
-  1  a line was bad, or the bytes are none
+  1  a line was bad, or explain met a refused command, or the bytes are none
   2  the words are wrong
   3  a file, read, write, length or memory fault
 ";

@@ -20,7 +20,8 @@ use Rattle.rh_session.specs.declared.status.Status.TheVariants as status
 use Rattle.clap.specs.Words.{Row, Text, fault_of, subcommand_of}
 use Rattle.clap.specs.declared.error.kind.ErrorKind.TheVariants as kind
 use Rattle.rh_desk.specs.CommandLine.{program_words}
-use Rattle.rh_desk.specs.Done.{CheckOver, FileOver, IsWhole, MapOver, RequestEnds, RunEnds, RunOver, SheetOver, ShownOver, Streams, Untouched}
+use Rattle.rh_desk.specs.Done.{CheckOver, ExplainOver, HelpEnds}
+use Rattle.rh_desk.specs.Done.{FileOver, IsWhole, MapOver, RequestEnds, RunEnds, RunOver, SheetOver, ShownOver, Streams, Untouched}
 use Rattle.rh_desk.specs.Done.{WordsEnd, line_as, status_as}
 use Rattle.rh_desk.specs.ProgramEnd.{ending_of}
 use Rattle.rh_desk.specs.FileWords.{AreGood, word_name}
@@ -33,6 +34,9 @@ use Rattle.rh_desk.specs.declared.reasons.FileLoss.TheVariants as loss
 use Rattle.rh_desk.specs.declared.request.ImageKind.{ImageKind}
 use Rattle.rh_desk.specs.declared.request.Request.{Request}
 use Rattle.rh_desk.specs.declared.request.Shown.{Shown}
+use Rattle.rh_explained.specs.Explained.{Explained, ExplainedSoFar, ExplainedUntil}
+use Rattle.rh_explained.specs.Help.{command_help}
+use Rattle.rh_explained.specs.declared.command_kind.CommandKind.{CommandKind}
 use Rattle.rh_pictures.specs.Mapped.{Mapped, MappedSoFar, MappedUntil}
 use Rattle.rh_figure.specs.Map.{place}
 use Rattle.rh_pictures.specs.Painted.{Painted, PaintedSoFar, PaintedUntil}
@@ -114,6 +118,26 @@ run-over d s (Err NoMemory) ok memory read answered long so_far broke quiet told
 run-over d s (Err ReadFailed) ok memory read answered long so_far broke quiet told = (ReadFailed, (read refl, answered refl), told ReadFailed refl)
 run-over d s (Err TooLong) ok memory read answered long so_far broke quiet told = (TooLong, ((long refl).0, (long refl).1, so_far refl), told TooLong refl)
 run-over d s (Err WriteFailed) ok memory read answered long so_far broke quiet told = (WriteFailed, broke refl, told WriteFailed refl)
+
+-- how explanations end the program
+pub explain-over : (d : Desk) (s : Streams) (outcome : Result Status RunFault)
+    → IfOk outcome (λ status. Explained d s.before s.after s.old s.new status)
+    → (IsErrOf outcome NoMemory → (s.after ≡ s.before) × (s.new ≡ s.old))
+    → (IsErrOf outcome ReadFailed → s.after.failed ≡ true)
+    → (IsErrOf outcome ReadFailed → ExplainedSoFar d s.before s.after s.old s.new)
+    → (IsErrOf outcome TooLong → (s.after.reads ≡ MOST_READS) × (s.after.failed ≡ s.before.failed))
+    → (IsErrOf outcome TooLong → ExplainedSoFar d s.before s.after s.old s.new)
+    → (IsErrOf outcome WriteFailed → ExplainedUntil d s.before s.old s.new)
+    → ((status : Status) → outcome ≡ Ok status → s.told ≡ s.quiet)
+    → ((fault : RunFault) → outcome ≡ Err fault → Tells s.quiet s.told (run_fault_text fault))
+    → ExplainOver d s (ending_of outcome)
+explain-over d s (Ok status.Clean) ok memory read explained long so_far broke quiet told = (ok, quiet status.Clean refl)
+explain-over d s (Ok status.BadLines) ok memory read explained long so_far broke quiet told = (ok, quiet status.BadLines refl)
+explain-over d s (Err NoMemory) ok memory read explained long so_far broke quiet told = (NoMemory, memory refl, told NoMemory refl)
+explain-over d s (Err ReadFailed) ok memory read explained long so_far broke quiet told = (ReadFailed, (read refl, explained refl), told ReadFailed refl)
+explain-over d s (Err TooLong) ok memory read explained long so_far broke quiet told =
+    (TooLong, ((long refl).0, (long refl).1, so_far refl), told TooLong refl)
+explain-over d s (Err WriteFailed) ok memory read explained long so_far broke quiet told = (WriteFailed, broke refl, told WriteFailed refl)
 
 -- how a map ends the program
 pub map-over : (marked : Bool) (d : Desk) (s : Streams) (outcome : Result Status RunFault)

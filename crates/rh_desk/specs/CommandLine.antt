@@ -1,5 +1,5 @@
--- What the program's words may be: `run [--pages N] SCRIPT [NAME=PATH ...]`, `map` and `draw` with the same words and
--- `--marked`, and `check [--slot] FILE`.
+-- What the program's words may be: `run [--pages N] SCRIPT [NAME=PATH ...]`, `explain` with the same words, `map` and
+-- `draw` with these and `--marked`, and `check [--slot] FILE`.
 use Rattle.std.specs.Prelude.{Some, codes, pos, true}
 use Rattle.clap.specs.Lexer.{usize_max}
 use Rattle.clap.specs.Simple.{App, new_app, new_rule, on_top, with_rule, with_subcommand}
@@ -28,8 +28,9 @@ files_rule = record (new_rule (codes "files")) {
   action = Some Append;
 }
 
-abbrev pub run_words : App
-run_words = with_rule (with_rule (with_rule (new_app (codes "run")) pages_rule) (needed_rule (codes "script"))) files_rule
+-- the words of a run, or of its explanations
+abbrev pub script_words : Text → App
+script_words name = with_rule (with_rule (with_rule (new_app name) pages_rule) (needed_rule (codes "script"))) files_rule
 
 -- `--marked`, with no word behind it
 abbrev pub marked_rule : Rule
@@ -53,4 +54,4 @@ program_top = on_top (λ shape. record shape { has_version = true; subcommand_re
 
 abbrev pub program_words : App
 program_words =
-    with_subcommand (with_subcommand (with_subcommand (with_subcommand program_top run_words.top) (picture_words (codes "map")).top) (picture_words (codes "draw")).top) check_words.top
+    with_subcommand (with_subcommand (with_subcommand (with_subcommand (with_subcommand program_top (script_words (codes "run")).top) (script_words (codes "explain")).top) (picture_words (codes "map")).top) (picture_words (codes "draw")).top) check_words.top

@@ -1,5 +1,5 @@
 -- What the program has read, written and told when it did what its words ask for.
-use Rattle.std.specs.Prelude.{◌≡◌, ◌≢◌, ◌⊎◌, ◌≤◌, ℕ, Bool, List, [], map, codes, length, true, false, All, Contains, Option, IfSome, if◌then◌else◌}
+use Rattle.std.specs.Prelude.{◌≡◌, ◌≢◌, ◌⊎◌, ◌≤◌, ℕ, Bool, List, [], map, codes, length, true, false, All, Contains, Option, None, Some, IfSome, if◌then◌else◌}
 use Rattle.std.specs.Str.{bytes_eq}
 use Rattle.clap.specs.Words.{HasKind, fault_of, kind_of, subcommand_of}
 use Rattle.clap.specs.declared.error.Error.{Error}
@@ -14,12 +14,16 @@ use Rattle.rh_defs.specs.Runs.{start}
 use Rattle.rh_defs.specs.declared.sizes.TheConstants.{LONGEST_FILE, MOST_READS}
 use Rattle.rh_lines.specs.Flow.{Input, Output, Takes, Breaks}
 use Rattle.rh_run.specs.Checked.{image_line, image_status}
+use Rattle.rh_explained.specs.Explained.{Explained, ExplainedSoFar, ExplainedUntil}
+use Rattle.rh_explained.specs.Help.{command_help}
+use Rattle.rh_explained.specs.declared.command_kind.CommandKind.{CommandKind}
 use Rattle.rh_run.specs.CheckedSlot.{slot_image_line, slot_image_status}
 use Rattle.rh_session.specs.Outcome.{Answered, Finished, BrokeOff}
 use Rattle.rh_session.specs.declared.status.RunFault.{RunFault}
 use Rattle.rh_session.specs.declared.status.RunFault.TheVariants.{NoMemory, ReadFailed, WriteFailed, TooLong}
 use Rattle.rh_session.specs.declared.status.Status.{Status}
 use Rattle.rh_session.specs.declared.status.Status.TheVariants as status
+use Rattle.rh_desk.specs.Asked.{kind_asked, meant_words}
 use Rattle.rh_desk.specs.CommandLine.{program_words}
 use Rattle.rh_desk.specs.FileWords.{AreGood, word_name}
 use Rattle.rh_desk.specs.Inputs.{IsAllOf, TellsLostInput}
@@ -33,7 +37,7 @@ use Rattle.rh_desk.specs.declared.request.ImageKind.TheVariants.{Heap, Slot}
 use Rattle.rh_desk.specs.declared.request.Request.{Request}
 use Rattle.rh_desk.specs.declared.request.Request.TheVariants.{Check, Run}
 use Rattle.rh_desk.specs.declared.request.Shown.{Shown}
-use Rattle.rh_desk.specs.declared.request.Shown.TheVariants.{Replies, Map, Sheet}
+use Rattle.rh_desk.specs.declared.request.Shown.TheVariants.{Replies, Explanations, Map, Sheet}
 
 -- the input, the output and the errors before and after: what is read, written and told
 pub record Streams : Type 0 where
@@ -110,6 +114,21 @@ SheetOver marked name d s WrongWords = ⊥
 SheetOver marked name d s Fault =
     (fault : RunFault) × SheetStopped marked name d s fault × Tells s.quiet s.told (run_fault_text fault)
 
+-- what was read and written where a fault stopped explanations
+abbrev pub ExplainStopped : Desk → Streams → RunFault → Type 0
+ExplainStopped d s NoMemory = Untouched s
+ExplainStopped d s ReadFailed = (s.after.failed ≡ true) × ExplainedSoFar d s.before s.after s.old s.new
+ExplainStopped d s TooLong =
+    (s.after.reads ≡ MOST_READS) × (s.after.failed ≡ s.before.failed) × ExplainedSoFar d s.before s.after s.old s.new
+ExplainStopped d s WriteFailed = ExplainedUntil d s.before s.old s.new
+
+-- how the explanations of a script over a desk end, as a run does
+abbrev pub ExplainOver : Desk → Streams → ProgramEnd → Type 0
+ExplainOver d s Clean = Explained d s.before s.after s.old s.new status.Clean × (s.told ≡ s.quiet)
+ExplainOver d s BadLines = Explained d s.before s.after s.old s.new status.BadLines × (s.told ≡ s.quiet)
+ExplainOver d s WrongWords = ⊥
+ExplainOver d s Fault = (fault : RunFault) × ExplainStopped d s fault × Tells s.quiet s.told (run_fault_text fault)
+
 -- the name that a sheet has: the last part of its script's path, and words for the input
 abbrev pub sheet_name : List ℕ → List ℕ
 sheet_name script = if bytes_eq script (codes "-") then codes "standard input" else last_part script
@@ -117,6 +136,7 @@ sheet_name script = if bytes_eq script (codes "-") then codes "standard input" e
 -- how replies, a map or a sheet of a script over a desk end
 abbrev pub ShownOver : Shown → List ℕ → Desk → Streams → ProgramEnd → Type 0
 ShownOver Replies script d s ending = RunOver d s ending
+ShownOver Explanations script d s ending = ExplainOver d s ending
 ShownOver (Map marked) script d s ending = MapOver marked d s ending
 ShownOver (Sheet marked) script d s ending = SheetOver marked (sheet_name script) d s ending
 
@@ -143,8 +163,8 @@ pub record ScriptOver {F : Type 0} (remaining : F → Option (List ℕ)) (shown 
   pub from_input : script ≡ codes "-" → ShownOver shown script (start pages files) s ending
   pub from_file : script ≢ codes "-" → FileOver remaining shown (start pages files) script s ending
 
--- how `run`, `map` and `draw` end: with their script, or before, where the first bad word is told, or want of memory, or of good words a
--- lost file
+-- how `run`, `explain`, `map` and `draw` end: with their script, or before, where the first bad word is told, or want of
+-- memory, or of good words a lost file
 abbrev pub RunEnds : {F : Type 0} → (F → Option (List ℕ)) → Shown → ℕ → List ℕ → List (List ℕ) → Streams → ProgramEnd → Type 0
 RunEnds remaining shown pages script words s ending =
     ScriptOver remaining shown pages script words s ending
@@ -213,3 +233,16 @@ WordsEnd remaining words s ending =
     ⊎ ((s.after ≡ s.before) × ((error : Error) × HasKind (fault_of program_words words) error × ErrorEnds (kind_of error) s ending))
     ⊎ ((fault_of program_words words ≡ []) × AsksNothing (subcommand_of program_words words)
     × (ending ≡ WrongWords) × Untouched s × (s.told ≡ s.quiet))
+
+-- how the help of a command of a script ends: it is written, or the writer failed
+abbrev pub HelpEnds : CommandKind → Streams → ProgramEnd → Type 0
+HelpEnds k s Clean = Takes s.old s.new (command_help k) × (s.told ≡ s.quiet)
+HelpEnds k s BadLines = ⊥
+HelpEnds k s WrongWords = ⊥
+HelpEnds k s Fault = Breaks s.old s.new (command_help k) × Tells s.quiet s.told (run_fault_text WriteFailed)
+
+-- how any words end: with the help of a command of a script, where that is asked for, or as the words that are meant
+abbrev pub AnyWordsEnd : {F : Type 0} → (F → Option (List ℕ)) → List (List ℕ) → Streams → ProgramEnd → Type 0
+AnyWordsEnd remaining words s ending =
+    ((k : CommandKind) × (kind_asked words ≡ Some k) × (s.after ≡ s.before) × HelpEnds k s ending)
+    ⊎ ((kind_asked words ≡ None) × WordsEnd remaining (meant_words words) s ending)

@@ -1,7 +1,9 @@
+pub mod Asked
 pub mod CommandLine
 pub mod Done
 pub mod ProgramEnd
 pub mod FileWords
+pub mod Hints
 pub mod Inner
 pub mod Inputs
 pub mod Reasons

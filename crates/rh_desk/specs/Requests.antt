@@ -7,7 +7,7 @@ use Rattle.rh_desk.specs.declared.request.ImageKind.TheVariants.{Heap, Slot}
 use Rattle.rh_desk.specs.declared.request.Request.{Request}
 use Rattle.rh_desk.specs.declared.request.Request.TheVariants.{Check, Run}
 use Rattle.rh_desk.specs.declared.request.Shown.{Shown}
-use Rattle.rh_desk.specs.declared.request.Shown.TheVariants.{Replies, Map, Sheet}
+use Rattle.rh_desk.specs.declared.request.Shown.TheVariants.{Replies, Explanations, Map, Sheet}
 
 -- the number that is given, and else 64
 abbrev pub AsksPages : Option Text → ℕ → Type 0
@@ -28,7 +28,8 @@ AsksMarked (Some text) marked = (text ≡ codes "true" → marked ≡ true) × (
 
 -- what the subcommand's name and values ask to be written of a script
 abbrev pub AsksShown : Text → List Row → Shown → Type 0
-AsksShown name rows Replies = (name ≢ codes "map") × (name ≢ codes "draw")
+AsksShown name rows Replies = (name ≢ codes "map") × (name ≢ codes "draw") × (name ≢ codes "explain")
+AsksShown name rows Explanations = name ≡ codes "explain"
 AsksShown name rows (Map marked) = (name ≡ codes "map") × AsksMarked (one_of (codes "marked") rows) marked
 AsksShown name rows (Sheet marked) = (name ≡ codes "draw") × AsksMarked (one_of (codes "marked") rows) marked
 

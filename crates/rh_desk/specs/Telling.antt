@@ -1,7 +1,6 @@
 -- What the program tells of faults.
-use Rattle.std.specs.Prelude.{◌≡◌, ◌⊎◌, ℕ, ◌==◌, false, if◌then◌else◌, List, [], ◌∷◌, ◌++◌, flat_map, length, codes, Contains, Option}
-use Rattle.std.specs.Char.{is_ascii_control}
-use Rattle.hex.specs.Hex.{encode_lower}
+use Rattle.std.specs.Prelude.{◌≡◌, ◌⊎◌, ℕ, ◌==◌, false, if◌then◌else◌, List, ◌++◌, length, codes, Contains, Option}
+use Rattle.rh_explained.specs.ShownBytes.{shown}
 use Rattle.rh_lines.specs.Flow.{Output, Takes}
 use Rattle.rh_session.specs.declared.status.RunFault.{RunFault}
 use Rattle.rh_session.specs.declared.status.RunFault.TheVariants.{NoMemory, ReadFailed, WriteFailed, TooLong}
@@ -23,22 +22,14 @@ run_fault_text ReadFailed = codes "rh_desk: read failed\n"
 run_fault_text WriteFailed = codes "rh_desk: write failed\n"
 run_fault_text TooLong = codes "rh_desk: script too long\n"
 
--- how a byte is shown: a control byte as `\x` and its two digits, any other as it is
-abbrev pub told_byte : ℕ → List ℕ
-told_byte b = if is_ascii_control b then codes "\\x" ++ encode_lower (b ∷ []) else b ∷ []
-
--- how a word is shown
-abbrev pub told_word : List ℕ → List ℕ
-told_word word = flat_map told_byte word
-
 -- what is told of a word that is no NAME=PATH, and below it why
 abbrev pub bad_word_text : List ℕ → List ℕ
 bad_word_text word =
-    codes "rh_desk: bad file word " ++ (told_word word ++ (codes "\n" ++ word_fault_text (word_fault word)))
+    codes "rh_desk: bad file word " ++ (shown word ++ (codes "\n" ++ word_fault_text (word_fault word)))
 
 -- how a path is shown: the empty one in words
 abbrev pub shown_path : List ℕ → List ℕ
-shown_path path = if length path == 0 then codes "'' (an empty path)" else told_word path
+shown_path path = if length path == 0 then codes "'' (an empty path)" else shown path
 
 -- what is told of a file that can't be had, and below it why
 abbrev pub lost_file_text : List ℕ → FileLoss → List ℕ

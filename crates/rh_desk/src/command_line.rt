@@ -4,7 +4,7 @@ ghost use Rattle.std.specs.Prelude.{◌≡◌, IfOk, IfSome, codes, false, map, 
 ghost use Rattle.clap.specs.Words.{FailsBy, app_of, fault_of, found_of, one_of, rows_of, rule_of, subcommand_of};
 ghost use Rattle.clap.specs.Words.{subcommand_rows_of};
 ghost use Rattle.rh_desk.specs.CommandLine.{check_words, files_rule, marked_rule, needed_rule, pages_rule};
-ghost use Rattle.rh_desk.specs.CommandLine.{picture_words, program_words, run_words};
+ghost use Rattle.rh_desk.specs.CommandLine.{picture_words, program_words, script_words};
 ghost use Rattle.rh_desk.specs.Requests.{AsksFor, AsksKind, AsksMarked, AsksNothing, AsksShown};
 
 use crate::request::{ImageKind, Request, RunRequest, Shown};
@@ -18,12 +18,19 @@ pub const PAGES: u32 = 64;
 /// How the program is called.
 const USAGE: &str = "\
 vervainfile run [--pages N] SCRIPT [NAME=PATH ...]
+       vervainfile explain [--pages N] SCRIPT [NAME=PATH ...]
        vervainfile map [--pages N] [--marked] SCRIPT [NAME=PATH ...]
        vervainfile draw [--pages N] [--marked] SCRIPT [NAME=PATH ...]
        vervainfile check [--slot] FILE
-       vervainfile                 (with no words: the script on standard input, over 64 pages)";
+       vervainfile help COMMAND  (one of these, or of a script, as alloc)
+       vervainfile               (with no words: the script on standard input)";
 
-/// What the subcommands for pictures do.
+/// What the subcommands for scripts do.
+const ABOUT_RUN: &str = "Run a script and print its replies";
+
+const ABOUT_EXPLAIN: &str =
+    "Run a script and say of each bad line and each refused command what was wrong";
+
 const ABOUT_MAP: &str = "Run a script and print a map of memory after each step";
 
 const ABOUT_DRAW: &str =
@@ -31,14 +38,15 @@ const ABOUT_DRAW: &str =
 
 /// What stands under the help.
 const MORE: &str = "\
-With no words at all the script on standard input is run, over 64 pages and without files.
+With no words at all the script on standard input is run, over 64 pages and
+without files.
 
 Example:
   vervainfile run --pages 8 hello.desk picture=logo.spr
 
 Exit status:
   0  each line was good, or the bytes are a heap, or with --slot a slot
-  1  a line was bad, or the bytes are none
+  1  a line was bad, or explain met a refused command, or the bytes are none
   2  the words are wrong
   3  a file, read, write, length or memory fault";
 
@@ -90,6 +98,8 @@ fn shown_of(name: &str, found: &ArgMatches<'_>) -> Shown
         Shown::Sheet {
             marked: is_marked(found),
         }
+    } else if name == "explain" {
+        Shown::Explanations
     } else {
         Shown::Replies
     }
@@ -114,18 +124,20 @@ pub fn parsed<'a>(alloc: Global, words: &'a [String]) -> Result<ArgMatches<'a>, 
         .override_usage(USAGE)
         .after_help(MORE)
         .subcommand_required(true)
-        .subcommand(running(alloc)?)?
+        .subcommand(running(alloc, "run", ABOUT_RUN)?)?
+        .subcommand(running(alloc, "explain", ABOUT_EXPLAIN)?)?
         .subcommand(picturing(alloc, "map", ABOUT_MAP)?)?
         .subcommand(picturing(alloc, "draw", ABOUT_DRAW)?)?
         .subcommand(checking(alloc)?)?
         .try_get_matches_from(words)
 }
 
-fn running<'a>(alloc: Global) -> Result<Command<'a>, AllocError>
-    ensures { IfOk result (λ command. app_of command ≡ run_words) }
+/// The words of a run, or of its explanations.
+fn running<'a>(alloc: Global, name: &'a str, about: &'a str) -> Result<Command<'a>, AllocError>
+    ensures { IfOk result (λ command. app_of command ≡ script_words name.now) }
 {
-    Command::new(alloc, "run")
-        .about("Run a script and print its replies")
+    Command::new(alloc, name)
+        .about(about)
         .after_help(MORE)
         .arg(pages_arg(alloc))?
         .arg(script_arg(alloc))?

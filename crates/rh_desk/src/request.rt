@@ -3,10 +3,12 @@
 ghost use Rattle.std.specs.Prelude.{◌≤◌};
 ghost use Rattle.rh_defs.specs.declared.sizes.TheConstants.{MAX_PAGES, MIN_PAGES};
 
-/// What is written of a script: the replies, or a map or a sheet of all steps or of marked ones alone.
+/// What is written of a script: the replies, the explanations of what went wrong, or a map or a sheet of all steps or
+/// of marked ones alone.
 #[derive(Clone, Copy)]
 pub enum Shown {
     Replies,
+    Explanations,
     Map { marked: bool },
     Sheet { marked: bool },
 }

@@ -2,15 +2,19 @@
 
 ghost use Rattle.std.specs.Prelude.{◌≡◌, ◌≢◌, ◌⊎◌, ◌≤◌, ◌++◌, codes, true};
 ghost use Rattle.clap.specs.Values.{kind_of};
+ghost use Rattle.rh_desk.specs.Hints.{mistake_text};
 ghost use Rattle.rh_desk.specs.ProgramEnd.{ending_of, exit_status};
 ghost use Rattle.rh_desk.specs.Reasons.{loss_text};
 ghost use Rattle.rh_desk.specs.Telling.{Tells, TellsFolder, bad_word_text, lost_file_text, run_fault_text, shown_path};
 
+use crate::asked::word;
+use crate::hint::Hint;
+use crate::mistakes::put_mistake;
 use crate::program_end::ProgramEnd;
 use crate::reasons::{FileLoss, WordFault};
-use crate::shown_words::put_shown;
 use clap::Error;
 use clap::error::ErrorKind;
+use rh_explained::put_shown;
 use rh_lines::{Pen, Sink, WriterPen, put};
 use rh_run::{RunFault, Status};
 use std::alloc::Global;
@@ -51,6 +55,7 @@ fn run_fault_text(fault: RunFault) -> &'static [u8]
 /// Prints what `clap` says of the words: help and version to the output, anything else to the errors.
 pub fn tell_words_error<O: Sink, E: Sink>(
     alloc: Global,
+    words: &[String],
     error: &Error,
     output: &mut O,
     errors: &mut E,
@@ -76,13 +81,24 @@ pub fn tell_words_error<O: Sink, E: Sink>(
         _ => return ended(Err(RunFault::NoMemory), errors),
     };
     if error.use_stderr() {
-        let _told = put(errors, text.as_bytes());
+        let hint = Hint::of(error.kind(), words);
+        tell_mistake(hint, word(words, 2), text.as_bytes(), errors);
         return ProgramEnd::WrongWords;
     }
     match put(output, text.as_bytes()) {
         Ok(()) => ProgramEnd::Clean,
         Err(_) => ended(Err(RunFault::WriteFailed), errors),
     }
+}
+
+/// Tells of a mistake in the words, as `clap` has it, and below its first line what helps.
+fn tell_mistake<E: Sink>(hint: Option<Hint>, verb: &[u8], text: &[u8], errors: &mut E)
+    ensures { Tells (E.output errors.old) (E.output errors.new) (mistake_text hint verb.now text.now) }
+{
+    let mut room = [0; HELD];
+    let mut pen = WriterPen::new(errors, &mut room);
+    put_mistake(hint, verb, text, &mut pen);
+    let _told = pen.finish();
 }
 
 /// Tells of a file that can't be opened, or can't be read whole, and why.

@@ -3,17 +3,19 @@
 ghost use Rattle.std.specs.Prelude.{◌≡◌, ◌≢◌, ◌≤◌, ◌<◌, [], codes, length, map, string_bytes, IfOk, IfErr};
 ghost use Rattle.rh_defs.specs.Runs.{start};
 ghost use Rattle.rh_desk.specs.declared.command_line.TheConstants.{PAGES};
-ghost use Rattle.rh_desk.specs.Done.{CheckEnds, FileOver, InputCheckEnds, MapOver, RunEnds, RunOver, SheetOver};
-ghost use Rattle.rh_desk.specs.Done.{ShownOver, WordsEnd, line_as};
+ghost use Rattle.rh_desk.specs.Done.{AnyWordsEnd, CheckEnds, ExplainOver, FileOver, HelpEnds, InputCheckEnds, MapOver};
+ghost use Rattle.rh_desk.specs.Done.{RunEnds, RunOver, SheetOver, ShownOver, WordsEnd, line_as};
 ghost use Rattle.rh_desk.specs.Done.{sheet_name as name_of_sheet, status_as, streams};
 ghost use Rattle.rh_desk.specs.ProgramEnd.{ending_of, exit_status};
 ghost use Rattle.rh_desk.specs.Telling.{Tells, run_fault_text};
-ghost use Rattle.rh_lines.specs.Flow.{Breaks, Input, Takes};
+ghost use Rattle.rh_explained.specs.Help.{command_help};
+ghost use Rattle.rh_lines.specs.Flow.{Breaks, Input, Puts, Takes};
 ghost use Rattle.rh_session.specs.Outcome.{Finished};
 ghost use Rattle.std.specs.IoError.{error_kind};
 ghost use Rattle.std.specs.declared.io.ErrorKind.TheVariants.{OutOfMemory};
 ghost use Rattle.rh_defs.specs.declared.sizes.TheConstants.{MAX_PAGES, MIN_PAGES};
 
+use crate::asked::{kind_asked, meant};
 use crate::command_line::{PAGES, parsed, request_of};
 use crate::files::{check_words, read_files, read_whole};
 use crate::input::{INPUT, read_input};
@@ -23,12 +25,16 @@ use crate::request::{ImageKind, Request, RunRequest, Shown};
 use crate::telling::{ended, tell_file, tell_folder, tell_words_error};
 use memchr::memrchr;
 use rh_defs::Files;
-use rh_lines::{Flagged, Sink, Source, put};
-use rh_run::{RunFault, Status, check_image, check_slot_image, draw_map, draw_sheet, run};
+use rh_explained::{CommandKind, put_command_help};
+use rh_lines::{Flagged, Sink, Source, WriteFailed, WriterPen, put};
+use rh_run::{RunFault, Status, check_image, check_slot_image, draw_map, draw_sheet, explain, run};
 use std::alloc::Global;
 use std::fs::{File, OpenFile};
 use std::io::{self, Read};
 use std::rt;
+
+/// So many bytes of help are held, and written by one call.
+const HELP_ROOM: usize = 2_048;
 
 /// The name of the input in a sheet.
 const INPUT_NAME: &[u8] = b"standard input";
@@ -62,14 +68,14 @@ pub fn program<R: rt::Files, I: Source, O: Sink, E: Sink>(
         × RunOver (start PAGES []) (streams (I.input input.old) (I.input input.new) (O.output output.old)
         (O.output output.new) (E.output errors.old) (E.output errors.new)) ending }
     ensures asked { 1 < length words.now → (ending : ProgramEnd) × (result ≡ exit_status ending)
-        × WordsEnd R.File.remaining (map string_bytes words.now)
+        × AnyWordsEnd R.File.remaining (map string_bytes words.now)
         (streams (I.input input.old) (I.input input.new) (O.output output.old) (O.output output.new)
         (E.output errors.old) (E.output errors.new)) ending }
 {
     let ending = if words.len() <= 1 {
         run_told(alloc, Files::new(alloc), PAGES, input, output, errors)
     } else {
-        run_words(runtime, alloc, words, input, output, errors)
+        any_words(runtime, alloc, words, input, output, errors)
     };
     ending.exit_status()
 }
@@ -121,6 +127,28 @@ fn run_told<I: Source, O: Sink, E: Sink>(
         (E.output errors.old) (E.output errors.new)) result }
 {
     ended(run(alloc, files, script, output, pages), errors)
+}
+
+/// Explains what went wrong in a script over so many pages with these files, and tells the fault that stopped it, if
+/// one did.
+fn explain_told<I: Source, O: Sink, E: Sink>(
+    alloc: Global,
+    files: Files,
+    pages: u32,
+    script: &mut I,
+    output: &mut O,
+    errors: &mut E,
+) -> ProgramEnd
+    requires least { MIN_PAGES ≤ pages }
+    requires most { pages ≤ MAX_PAGES }
+    requires fresh { (I.input script.old).reads ≡ 0 }
+    ensures well { exit_status result ≤ 1 → (O.output output.new).failed ≡ (O.output output.old).failed }
+    ensures run { result ≡ ProgramEnd.WrongWords → ⊥ }
+    ensures over { ExplainOver (start pages files)
+        (streams (I.input script.old) (I.input script.new) (O.output output.old) (O.output output.new)
+        (E.output errors.old) (E.output errors.new)) result }
+{
+    ended(explain(alloc, files, script, output, pages), errors)
 }
 
 /// Writes the map of a script over so many pages with these files, and tells the fault that stopped it, if one did.
@@ -205,6 +233,7 @@ fn show_told<I: Source, O: Sink, E: Sink>(
 {
     match request.shown {
         Shown::Replies => run_told(alloc, files, request.pages, script, output, errors),
+        Shown::Explanations => { explain_told(alloc, files, request.pages, script, output, errors) }
         Shown::Map { marked } => {
             map_told(alloc, files, request.pages, marked, script, output, errors)
         }
@@ -212,6 +241,51 @@ fn show_told<I: Source, O: Sink, E: Sink>(
             sheet_told(alloc, files, request, marked, script, output, errors)
         }
     }
+}
+
+/// Writes the help of a command of a script where that is asked for, and else does what the words mean.
+fn any_words<R: rt::Files, I: Source, O: Sink, E: Sink>(
+    runtime: &R,
+    alloc: Global,
+    words: &[String],
+    input: &mut I,
+    output: &mut O,
+    errors: &mut E,
+) -> ProgramEnd
+    requires { (I.input input.old).reads ≡ 0 }
+    ensures well { exit_status result ≤ 1 → (O.output output.new).failed ≡ (O.output output.old).failed }
+    ensures wrong { result ≡ ProgramEnd.WrongWords → O.output output.new ≡ O.output output.old }
+    ensures ends { AnyWordsEnd R.File.remaining (map string_bytes words.now)
+        (streams (I.input input.old) (I.input input.new) (O.output output.old) (O.output output.new)
+        (E.output errors.old) (E.output errors.new)) result }
+{
+    match kind_asked(words) {
+        Some(kind) => help_told(kind, output, errors),
+        None => run_words(runtime, alloc, meant(words), input, output, errors),
+    }
+}
+
+/// Writes the help of a command of a script, and tells where it can't be written.
+fn help_told<O: Sink, E: Sink>(kind: CommandKind, output: &mut O, errors: &mut E) -> ProgramEnd
+    ensures well { exit_status result ≤ 1 → (O.output output.new).failed ≡ (O.output output.old).failed }
+    ensures run { result ≡ ProgramEnd.WrongWords → ⊥ }
+    ensures ends { (input : Input) → HelpEnds kind (streams input input (O.output output.old) (O.output output.new)
+        (E.output errors.old) (E.output errors.new)) result }
+{
+    match print_help(kind, output) {
+        Ok(()) => ProgramEnd::Clean,
+        Err(_) => ended(Err(RunFault::WriteFailed), errors),
+    }
+}
+
+/// Writes the help of a command of a script. Fails only where the writer failed or took none of what it was offered.
+fn print_help<O: Sink>(kind: CommandKind, output: &mut O) -> Result<(), WriteFailed>
+    ensures { Puts (O.output output.old) (O.output output.new) result (command_help kind) }
+{
+    let mut room = [0; HELP_ROOM];
+    let mut pen = WriterPen::new(output, &mut room);
+    put_command_help(kind, &mut pen);
+    pen.finish()
 }
 
 fn run_words<R: rt::Files, I: Source, O: Sink, E: Sink>(
@@ -231,7 +305,7 @@ fn run_words<R: rt::Files, I: Source, O: Sink, E: Sink>(
 {
     let matches = match parsed(alloc, words) {
         Ok(matches) => matches,
-        Err(error) => return tell_words_error(alloc, &error, output, errors),
+        Err(error) => return tell_words_error(alloc, words, &error, output, errors),
     };
     match request_of(&matches) {
         Some(Request::Check { kind, file }) => {

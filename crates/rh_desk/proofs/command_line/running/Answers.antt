@@ -1,11 +1,11 @@
-use Rattle.std.proofs.Common.{ap₂, ◌∙◌, ◌≡◌, codes}
+use Rattle.std.proofs.Common.{ap₂, ◌∙◌, ◌≡◌}
 use Rattle.std.proofs.lemmas.Result.{IfOk-weaker}
 use Rattle.clap.specs.Words.{app_of, new_app, with_rule}
 use Rattle.rh_desk.proofs.command_line.running.Goals as goal
 
 pub returns : goal.returns
 returns c =
-    let top_is : app_of c.after_help.result ≡ new_app (codes "run") = rw (c.after_help.ensures, c.about.ensures) c.new.ensures.app in
+    let top_is : app_of c.after_help.result ≡ new_app c.args.name.now = rw (c.after_help.ensures, c.about.ensures) c.new.ensures.app in
     let one = c.in_ok-arg.ensures.shape c.pages_arg.ensures.local ∙ ap₂ with_rule top_is c.pages_arg.ensures.rule in
     let two = c.in_ok-arg-2.ensures.shape c.script_arg.ensures.local ∙ ap₂ with_rule one c.script_arg.ensures.rule in
     IfOk-weaker c.arg-3.result _ _

@@ -6,7 +6,7 @@ pub returns-clause-asked : goal.returns-clause-asked
 returns-clause-asked g c = λ many. elim c.if-words-le1.branch [
   | then-words-le1 w ↦ search rules
   | else-words-le1 w ↦ rw (w.input-is, w.output-is, w.errors-is)
-      (c.if-words-le1.ending, c.exit_status.ensures, rw w.ending-is w.run_words-ending.ensures.ends)
+      (c.if-words-le1.ending, c.exit_status.ensures, rw w.ending-is w.any_words-ending.ensures.ends)
 ]
 
 pub returns-clause-alone : goal.returns-clause-alone
