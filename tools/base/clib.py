@@ -59,19 +59,33 @@ def is_new(crate, target):
     return os.path.isfile(made) and os.path.getmtime(made) > max(map(os.path.getmtime, sources))
 
 
-def prove(crates, target, log):
-    """Proves each library below the crates that isn't yet, and then the crates, and builds their archives."""
-    with libraries.locked([*libraries.below(crates), *crates]):
-        left = libraries.unbuilt(libraries.below(crates))
+def prove(stale, log):
+    """Proves each library below the crates that isn't yet, and then the crates, and builds their archives.
+
+    `stale` has each crate with the machines that lack its archive.
+    """
+    with libraries.locked([*libraries.below(stale), *stale]):
+        left = libraries.unbuilt(libraries.below(stale))
         given = kit.in_lanes(libraries.tasks(left, lambda it, jobs: libraries.build(it, jobs, log)))
         lost = [it.name for it in left if not given[it.name, "library"]]
-        lost = lost or [it.name for it in crates if not compiled(it, target, log)]
+        lost = lost or [it.name for it in stale if not compiled(it, stale[it], log)]
     if lost:
-        raise Fault(f"{lost[0]} is not proved, and no archive was built: {target.folder(FOLDER)}/{LOG} says why")
+        raise Fault(f"{lost[0]} is not proved, and no archive was built: {FOLDER}/{LOG} says why")
 
 
-def compiled(crate, target, log):
-    """Proves a crate over the libraries below it, and compiles its exports; gives whether that was done.
+def compiled(crate, machines, log):
+    """Proves a crate over the libraries below it, and compiles its exports for each machine; gives whether it could.
+
+    Where there are several machines, the first one's proof is put into a folder that is empty before it, and the others
+    go by that: what is proved of a function doesn't depend on the machine.
+    """
+    with tempfile.TemporaryDirectory(prefix="clib-proof-") as folder:
+        proof = folder if len(machines) > 1 else None
+        return all(compiled_for(crate, it, proof, log) for it in machines)
+
+
+def compiled_for(crate, target, proof, log):
+    """Compiles a crate's exports for one machine, over what the folder `proof` has of this run's proof, if it is given.
 
     No archive stays of a crate that isn't proved, or whose proof stands on work that no verdict may rest on: `is_new`
     would take it for a proved one.
@@ -82,11 +96,12 @@ def compiled(crate, target, log):
     words = crate.words(["--jobs", "1"], keeps=False)
     words += ["--target", target.name] if target.name else []
     words += ["--toolchain", f"{kit.KIT}/toolchain", "--backend", "llvm"]
-    if not crate.prove(["build", *words, "-o", os.path.relpath(archive_of(crate, target), crate.folder)]):
-        return True
-    with contextlib.suppress(FileNotFoundError):
-        os.remove(archive_of(crate, target))
-    return False
+    words += ["-o", os.path.relpath(archive_of(crate, target), crate.folder)]
+    if not kit.proved(crate, ["build", *words], proof):
+        with contextlib.suppress(FileNotFoundError):
+            os.remove(archive_of(crate, target))
+        return False
+    return True
 
 
 def archive(top, crates, target, made):
@@ -141,28 +156,32 @@ def write_files(top):
     write_package(f"{top}/{PACKAGE}", f"{top}/{FOLDER}/{NAME}.pc", dict(BESIDE, VERSION=header.version_of(top)))
 
 
-def make_archives(top, crates, target):
+def make_archives(top, crates, machines):
     """Proves and compiles those of the crates whose archives aren't new, but for what was kept of them."""
-    sums = {it: kept.of_code(it, BUILDERS) for it in crates if not is_new(it, target)}
-    stale = [it for it in sums if not kept.give_file(kept_as(it, target), sums[it], archive_of(it, target))]
+    sums = {it: kept.of_code(it, BUILDERS) for it in crates if not all(is_new(it, one) for one in machines)}
+    lacking = {it: [one for one in machines if not is_there(it, one, sums[it])] for it in sums}
+    stale = {it: lacking[it] for it in lacking if lacking[it]}
     if stale:
-        names, log = ", ".join(it.name for it in stale), f"{target.folder(FOLDER)}/{LOG}"
+        names, log = ", ".join(it.name for it in stale), f"{FOLDER}/{LOG}"
         print(f"clib: proving {names}, and what below isn't proved; {log} has what is said", flush=True)
+        os.makedirs(f"{top}/{FOLDER}", exist_ok=True)
         with open(f"{top}/{log}", "w", encoding="utf-8", errors="replace") as it:
-            prove(stale, target, it)
+            prove(stale, it)
     for it in stale:
-        kept.keep_file(kept_as(it, target), sums[it], archive_of(it, target))
+        for one in stale[it]:
+            kept.keep_file(kept_as(it, one), sums[it], archive_of(it, one))
 
 
-def make_library(top, target):
-    """Makes a machine's folder, and raises a fault where that can't be done or the header isn't that of the sources."""
-    faults = header.faults(top)
-    if faults:
-        raise Fault(f"the header and the sources differ: {faults[0]}")
+def is_there(crate, target, total):
+    """Whether a machine's archive of the crate is new, or was kept under this sum and stands there again."""
+    made = archive_of(crate, target)
+    return is_new(crate, target) or kept.give_file(kept_as(crate, target), total, made)
+
+
+def make_library(top, crates, target):
+    """Makes a machine's folder of archives that are there."""
     folder = target.folder(f"{top}/{FOLDER}")
     os.makedirs(folder, exist_ok=True)
-    crates = exporters(kit.crates_of(top))
-    make_archives(top, crates, target)
     archive(top, crates, target, f"{folder}/lib{NAME}.a")
     link_shared(top, f"{folder}/lib{NAME}.a", f"{folder}/{SHARED}")
     if not target.name:
@@ -174,13 +193,23 @@ def reader_of(target):
     return functools.partial(symbols, reader=("llvm-nm",), program=f"{TOOLCHAIN}/clang") if target.name else symbols
 
 
-def make(top, target=HERE):
-    """Makes lib/, or the folder of another machine in it, and gives the exit status."""
-    folder = target.folder(FOLDER)
+def make(top, *machines):
+    """Makes lib/ and the folders of other machines in it, for this machine if none is named; gives the exit status.
+
+    Nothing is made where the header isn't that of the sources.
+    """
+    machines = machines or (HERE,)
     try:
-        make_library(top, target)
-        said = look_at_symbols(top, f"{top}/{folder}", target, reader_of(target))
-        print(f"clib: {folder}/lib{NAME}.a: {said}")
+        faults = header.faults(top)
+        if faults:
+            raise Fault(f"the header and the sources differ: {faults[0]}")
+        crates = exporters(kit.crates_of(top))
+        make_archives(top, crates, machines)
+        for it in machines:
+            make_library(top, crates, it)
+            folder = it.folder(FOLDER)
+            said = look_at_symbols(top, f"{top}/{folder}", it, reader_of(it))
+            print(f"clib: {folder}/lib{NAME}.a: {said}")
     except Fault as why:
         print(f"clib: {why}", file=sys.stderr)
         return 1

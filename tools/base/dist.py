@@ -2,7 +2,6 @@
 
 import filecmp
 import hashlib
-import functools
 import os
 import shutil
 import sys
@@ -80,8 +79,12 @@ def library(top, crates, target, names, others):
     below = {low.name: low for it in clib.exporters(crates) for low in [*it.below(), it]}
     folder = target.folder(clib.FOLDER)
     files = {it: f"{folder}/{it}" for it in names}
-    build = functools.partial(clib.make, target=target)
-    return Part(top, f"{FOLDER}/{folder}", list(below.values()), ["crates.txt", *others], files, build)
+    return Part(top, f"{FOLDER}/{folder}", list(below.values()), ["crates.txt", *others], files, make_libraries)
+
+
+def make_libraries(top):
+    """Builds the library for each machine, by one proof; the part of one machine builds all."""
+    return clib.make(top, *targets.ALL)
 
 
 def parts_of(top):

@@ -9,12 +9,14 @@ import outcome
 
 HEADER = "c/vervainfile.h"
 SOURCES = ["crates/vf_heap/src/*.rt", "crates/vf_flex/src/*.rt", "crates/vf_desk/src/*.rt", "crates/vf_ram/src/*.rt",
-           "crates/rh_lent_slot/src/slot.rt"]
+           "crates/rh_lent_slot/src/slot.rt", "crates/rh_wide_slot/src/slot.rt"]
 SUFFIX = "_unless_null"
 NULL = "VF_NULL"
+# what a comment says whose refusals are tested as they are listed
+OWN_ORDER = "n this order: VF_"
 TYPES = {"u8": "uint8_t", "u16": "uint16_t", "u32": "uint32_t", "u64": "uint64_t", "i32": "int32_t", "i64": "int64_t",
          "usize": "size_t", "isize": "ptrdiff_t", "bool": "bool", "LentSlot": "struct vf_slot",
-         "VfDesk": "struct vf_desk", "VfEvent": "struct vf_event", "VfBlock": "struct vf_block",
+         "WideSlot": "struct vf_wide_slot", "VfDesk": "struct vf_desk", "VfEvent": "struct vf_event", "VfBlock": "struct vf_block",
          "VfSegment": "struct vf_segment", "VfHeapSums": "struct vf_heap_sums", "VfRecord": "struct vf_record",
          "VfArea": "struct vf_area", "VfMessage": "struct vf_message", "VfSender": "struct vf_sender",
          "VfOutgoing": "struct vf_outgoing", "VfSendAction": "struct vf_send_action", "VfPart": "struct vf_part",
@@ -170,12 +172,16 @@ def faults_of_version(header, version):
 def faults_of_orders(header, exported):
     """Which comments list refusals in another order than that of their numbers, or before what isn't one.
 
-    The refusals have the numbers below that of a null pointer. The order of what isn't a refusal is the call's own.
+    The refusals have the numbers below that of a null pointer. The order of what isn't a refusal is the call's own, and
+    so is that of a comment that says so.
     """
     numbers = {name: int(number) for name, number in NUMBER.findall(header.partition("};")[0])}
     first_other = numbers.get(NULL, 0)
     for name in exported:
-        listed = [it for it in NAME_OF_STATUS.findall(comment_above(header, name)) if it in numbers]
+        comment = comment_above(header, name)
+        listed = [it for it in NAME_OF_STATUS.findall(comment) if it in numbers]
+        if OWN_ORDER in comment:
+            continue
         if listed != sorted(listed, key=lambda it: numbers[it] if numbers[it] < first_other else 0):
             yield f"{name}: its comment lists {', '.join(listed)}, which isn't the order in which they are tested"
 
@@ -276,6 +282,8 @@ SLIPS = [
     ("size_t len, uint64_t *map, size_t map_len, size_t n,", "size_t len, uint32_t *map, size_t map_len, size_t n,"),
     ("#define vf_heap_index vf_heap_index_unless_null\n", ""),
     ("#define vf_flex_put vf_flex_put_unless_null\n", ""),
+    ("#define vf_flex_wide_put vf_flex_wide_put_unless_null\n", ""),
+    ("    size_t base;", "    size_t low;"),
     ("#define vf_flex_put vf_flex_checked_put\n", ""),
     ("VF_SPARE_PAGE = 42", "VF_SPARE_PAGE = 41"),
     ("uint32_t vf_flex_check(const uint8_t *memory,", "uint32_t vf_flex_check(uint8_t *memory,"),

@@ -15,11 +15,17 @@ def name_in(line):
 
 def owned(text):
     """The lines that belong to definitions, each behind the name of its own."""
+    lines = text.splitlines()
+    return ((owner, lines[number - 1]) for number, owner in numbered(text))
+
+
+def numbered(text):
+    """The numbers of the lines that belong to definitions, from 1 on, each with the name of its own."""
     owner = None
-    for line in text.splitlines():
+    for number, line in enumerate(text.splitlines(), 1):
         if not line.strip() or APART.match(line):
             owner = None
         else:
             owner = name_in(line) or owner
         if owner:
-            yield owner, line
+            yield number, owner

@@ -64,6 +64,9 @@ lock = _taken(_RTLIB, "lock", "bin/rtlib.py")
 # What a check says where it can't use the kept work of a library.
 STALE = _taken(_RTLIB, "STALE", "bin/rtlib.py")
 _crates_below = _taken(_RTLIB, "crates_below", "bin/rtlib.py")
+# How the last line of a check reads on which a verdict may rest, and what it has at its end of a folder of kept work.
+_VERDICT = _taken(_RTLIB, "VERDICT", "bin/rtlib.py")
+_OVER_KEPT = " incremental=trusted\n"
 # bin/rt-plant-bodies: reads the functions of a crate.
 Source = _taken(_BODIES, "Source", "bin/rt-plant-bodies")
 # What the tools ask of a crate.
@@ -85,3 +88,26 @@ def crates_of(top):
 def version():
     """The kit's line, by which two of them are told apart."""
     return subprocess.run([RT, "version"], capture_output=True, text=True, check=True).stdout.strip()
+
+
+class _OverOwnWork:
+    """Finds the last line of a check whose verdict may rest on a folder that this process alone has filled."""
+
+    @staticmethod
+    def search(text):
+        return _VERDICT.search(text.removesuffix(_OVER_KEPT).removesuffix("\n") + "\n")
+
+
+def proved(crate, words, folder=None):
+    """Whether the crate is proved by the prover's command of these words, and then all is made that it makes.
+
+    With a folder, which the caller has made empty for such calls, what one call has checked the next one takes from it.
+    No other call may stand beside this one.
+    """
+    if not folder:
+        return not crate.prove(words)
+    _RTLIB.VERDICT = _OverOwnWork
+    try:
+        return not crate.prove([*words, "--incremental", folder])
+    finally:
+        _RTLIB.VERDICT = _VERDICT

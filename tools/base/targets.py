@@ -31,3 +31,4 @@ AARCH64 = Target(
     reader=("aarch64-linux-gnu-nm",),
 )
 OTHERS = {it.name: it for it in (AARCH64,)}
+ALL = (HERE, *OTHERS.values())

@@ -3,7 +3,7 @@
 import os
 import pathlib
 
-from suite import WRITE_FAILED
+from suite import SCRIPT_VERBS, WRITE_FAILED
 
 # Words of which each is told as wrong.
 WRONG_WORDS = [
@@ -19,11 +19,13 @@ WRONG_WORDS = [
 USAGE = [
     b"The memory of a desktop, shared by its tasks",
     b"vervainfile run [--pages N] SCRIPT [NAME=PATH ...]\n",
+    b"vervainfile explain [--pages N] SCRIPT [NAME=PATH ...]\n",
     b"vervainfile map [--pages N] [--marked] SCRIPT [NAME=PATH ...]\n",
     b"vervainfile draw [--pages N] [--marked] SCRIPT [NAME=PATH ...]\n",
     b"vervainfile check [--slot] FILE\n",
+    b"vervainfile help COMMAND ",
     b"  0  each line was good, or the bytes are a heap, or with --slot a slot\n",
-    b"  1  a line was bad, or the bytes are none\n",
+    b"  1  a line was bad, or explain met a refused command, or the bytes are none\n",
     b"  2  the words are wrong\n",
     b"  3  a file, read, write, length or memory fault\n",
 ]
@@ -33,7 +35,9 @@ FILES = b"Files that the script may load, each by a name"
 MARKED = b"Show marked steps alone: a line #picture marks the next"
 HELP = [
     (["--help"], USAGE),
-    (["run", "--help"], [PAGES, SCRIPT, FILES]),
+    (["run", "--help"], [b"Run a script and print its replies", PAGES, SCRIPT, FILES]),
+    (["explain", "--help"], [b"Run a script and say of each bad line and each refused command what was wrong", PAGES, SCRIPT,
+                             FILES]),
     (["check", "--help"], [b"The bytes, 1048576 at most; - for standard input", b"Take the bytes for a slot, not for a heap"]),
     (["map", "--help"], [b"Run a script and print a map of memory after each step", PAGES, MARKED, SCRIPT, FILES]),
     (["draw", "--help"], [b"Run a script and print a page of HTML with a figure of memory after each step", PAGES,
@@ -64,7 +68,8 @@ def test_wrong_words_are_told(suite):
 
 def test_help_is_no_mistake(suite):
     """Each way to ask for help ends with 0, and tells nothing."""
-    for words in [["--help"], ["run", "--help"], ["check", "--help"], ["help"], ["help", "run"], ["-h"]]:
+    for words in [["--help"], ["run", "--help"], ["explain", "--help"], ["check", "--help"], ["help"], ["help", "run"], ["-h"],
+                  ["help", "-h"], ["help", "--help"]]:
         output, told, status = suite.run(words)
         suite.is_true(f"{words} are no mistake", (told, status) == (b"", 0))
         for text in [b"With no words at all the script on standard input is run",
@@ -92,7 +97,7 @@ def test_usage_shows_that_no_words_run_the_input(suite):
 def test_a_script_that_cannot_be_opened_is_told(suite):
     """A script that isn't there is told by its path."""
     lost = b"rh_desk: file no-such-script.desk\n  no such file\n"
-    for verb in ("run", "map", "draw"):
+    for verb in SCRIPT_VERBS:
         suite.ends(f"a lost script to {verb}", [verb, "no-such-script.desk"], b"", lost, 3)
 
 

@@ -12,6 +12,10 @@ FISH = SHARE / "fish/vendor_completions.d/vervainfile.fish"
 PAGE = SHARE / "man/man1/vervainfile.1"
 OPTION = re.compile(r"^ {2,6}(?:(-\w), )?(--[\w-]+)", re.MULTILINE)
 SCRIPT = "hello.desk"
+FORMATS = SHARE.parent / "docs/FORMATS.md"
+FORMS = FORMATS.read_text().partition("```\ntask NAME")[2].partition("```")[0]
+# The commands of a script, as docs/FORMATS.md has them.
+COMMANDS = {it.split()[0] for it in re.split(r" {2,}|\n", "task NAME" + FORMS) if it.strip()}
 
 
 def help_of(suite, *words):
@@ -51,7 +55,8 @@ def test_bash(suite):
     verbs = verbs_with_options(suite)
     suite.is_true("bash: the first word", by_bash("") == verbs_of(suite) | options_of(suite))
     suite.is_true("bash: a begun word", by_bash("dr") == {"draw"})
-    suite.is_true("bash: help", by_bash("help", "") == verbs_of(suite))
+    suite.is_true("bash: help", by_bash("help", "") == verbs_of(suite) | COMMANDS)
+    suite.is_true("bash: help of rma", by_bash("help", "rma", "") == {"claim", "free", "resize"})
     suite.is_true("bash: no command", by_bash("walk", "-") == set())
     pathlib.Path(SCRIPT).write_bytes(b"areas\n")
     for verb, options in verbs.items():
@@ -83,7 +88,7 @@ def test_fish(suite):
         return
     suite.is_true("fish: the first word", by_fish("") == verbs_of(suite))
     suite.is_true("fish: options", by_fish("-") == options_of(suite))
-    suite.is_true("fish: help", by_fish("help", "") >= verbs_of(suite))
+    suite.is_true("fish: help", by_fish("help", "") >= verbs_of(suite) | COMMANDS)
     for verb, options in verbs_with_options(suite).items():
         suite.is_true(f"fish: options of {verb}", by_fish(verb, "-") == options)
 
@@ -108,6 +113,7 @@ def test_zsh(suite):
         return
     top = by_zsh("verb")
     suite.is_true("zsh: commands", {it.split(":")[0] for it in top if re.match(r"\w+:", it)} >= verbs_of(suite))
+    suite.is_true("zsh: help", set(by_zsh("words", "help")) >= COMMANDS)
     option = re.compile(r"(?:\([^)]*\))?(--?[\w-]+)\[")
     first = {found[1] for it in top if (found := option.match(it))}
     suite.is_true("zsh: options", first == options_of(suite))

@@ -1,12 +1,18 @@
 """Less memory than the machine has: each example within it, and long scripts within that of short ones."""
 
+import concurrent.futures
 import pathlib
 
 from examples import EXAMPLES, words_of
 from images import heap_of
-from suite import MEMORY
+from suite import KIB, MEMORY, SCRIPT_VERBS, SMALL_STEPS
 
 NO_MEMORY = b"rh_desk: no memory\n"
+# The bytes of a small stack, and a script of few commands.
+SMALL_STACK = 160 * KIB
+# At so many of the limits at most the system has no page left for the stack, and ends the program by a signal.
+MOST_CUT = 2
+SHORT = b"task a 100\ntask b 10\nalloc a 0 4\nclaim a 20\nsave a 0 b leaf\npoll b\nareas\n"
 
 
 def is_refused(suite, words, output, status, memory):
@@ -19,8 +25,8 @@ def is_refused(suite, words, output, status, memory):
     return refused
 
 
-def test_refused_memory(suite):
-    """Where the machine lends less memory, each example and a check end well, or with want of memory and nothing else."""
+def example_runs():
+    """The words of each way to show an example, what they print, and the status."""
     runs = []
     for script in sorted(EXAMPLES.glob("*.desk")):
         before, files, status = words_of(script)
@@ -28,12 +34,49 @@ def test_refused_memory(suite):
         for verb, flags, ending in [("run", [], ".out"), ("map", marked, ".map"), ("draw", marked, ".html")]:
             words = [verb, *before, *flags, str(script), *files]
             runs.append((words, script.with_suffix(ending).read_bytes(), status))
+    return runs
+
+
+def test_refused_memory(suite):
+    """Where the machine lends less memory, each example and a check end well, or with want of memory and nothing else."""
     image, sums, _ = heap_of([16] * 20_000, set())
     pathlib.Path("many.heap").write_bytes(image)
-    runs.append((["check", "many.heap"], sums, 0))
-    for wanted in runs:
+    for wanted in [*example_runs(), (["check", "many.heap"], sums, 0)]:
         refused = [it for it in map(lambda it: is_refused(suite, *wanted, it), MEMORY) if it is not None]
         suite.is_true(f"{' '.join(wanted[0])}: refused memory, then granted", refused[:1] == [True] and not refused[-1])
+
+
+def sized_runs():
+    """The words of a check, and of each way to show a script over few pages and many."""
+    pathlib.Path("short.desk").write_bytes(SHORT)
+    pathlib.Path("some.heap").write_bytes(heap_of([16] * 2_000, set())[0])
+    pathlib.Path("fault.desk").write_bytes(SHORT + b"kill nobody\n")
+    sizes = [(verb, pages) for verb in SCRIPT_VERBS for pages in ("8", "64", "1024")]
+    scripts = {"explain": "fault.desk"}
+    return [["check", "some.heap"], *([verb, "--pages", pages, scripts.get(verb, "short.desk")] for verb, pages in sizes)]
+
+
+def test_each_memory(suite):
+    """In small steps from the least memory in which the program is loaded: the whole text, or want of memory. At a limit
+    or two the stack gets no page, a signal ends the program, and it has written nothing."""
+    for words in sized_runs():
+        whole = suite.run(words)
+        with concurrent.futures.ThreadPoolExecutor() as pool:
+            ended = list(pool.map(lambda it, words=words: suite.run(words, limit=it), SMALL_STEPS))
+        loaded = [it for i, it in enumerate(ended) if any(before[2] in (0, 3) for before in ended[: i + 1])]
+        cut = [it for it in loaded if it[2] < 0]
+        ends = {it for it in loaded if it[2] >= 0}
+        suite.is_true(f"{' '.join(words)}: all or no memory", ends == {(b"", NO_MEMORY, 3), whole})
+        suite.is_true(f"{' '.join(words)}: few signals", len(cut) <= MOST_CUT and all(it[0] == b"" for it in cut))
+        suite.is_true(f"{' '.join(words)}: all of its text", whole[0] and whole[1:] == (b"", int(words[0] == "explain")))
+
+
+def test_small_stacks(suite):
+    """A small stack is enough, for examples and for more pages."""
+    for words in [*sized_runs(), ["help"], ["--version"], ["run", "--help"]]:
+        suite.is_true(f"{' '.join(words)} on a small stack", suite.run(words, stack=SMALL_STACK) == suite.run(words))
+    for words, output, status in example_runs():
+        suite.ends(f"{' '.join(words)} on a small stack", words, output, b"", status, stack=SMALL_STACK)
 
 
 def test_long_scripts(suite):

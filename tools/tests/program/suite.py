@@ -6,11 +6,13 @@ import signal
 import subprocess
 
 # The words of the program that take a script.
-SCRIPT_VERBS = ("run", "map", "draw")
+SCRIPT_VERBS = ("run", "explain", "map", "draw")
 WRITE_FAILED = b"rh_desk: write failed\n"
 LONGEST_FILE = 1_048_576
 # Bytes of address space within which the program is run: from too few to be loaded to more than enough.
 MEMORY = range(5 << 19, 5 << 20, 1 << 16)
+# The same in small steps, up to more than enough for 1,024 pages.
+SMALL_STEPS = range(5 << 19, 12 << 20, 1 << 14)
 KIB = 1024
 # The seconds after which a run that hangs is ended.
 SECONDS = 120
@@ -22,10 +24,10 @@ class Suite:
     def __init__(self, program):
         self.program, self.wrong, self.tests = program, 0, 0
 
-    def run(self, words, stdin=b"", limit=None, longest=None, user=None, stdout=subprocess.PIPE,
+    def run(self, words, stdin=b"", limit=None, stack=None, longest=None, user=None, stdout=subprocess.PIPE,
             stderr=subprocess.PIPE):
-        """What the program printed, told, and ended with, within so many bytes of memory, where a file has at most
-        so many, and as this user. Its input is bytes, or a file that is open."""
+        """What the program printed, told, and ended with, within so many bytes of memory and of stack, where a file
+        has at most so many, and as this user. Its input is bytes, or a file that is open."""
 
         def before():
             if longest is not None:
@@ -35,9 +37,10 @@ class Suite:
                 os.setuid(user)
 
         words = [self.program, *words]
-        if limit:
-            # A shell's limit costs half the time of one that is set between a fork and a call of the program.
-            words = ["sh", "-c", f'ulimit -v {limit // KIB} && exec "$0" "$@"', *words]
+        for flag, most in [("-v", limit), ("-s", stack)]:
+            if most:
+                # A shell's limit costs half the time of one that is set between a fork and a call of the program.
+                words = ["sh", "-c", f'ulimit {flag} {most // KIB} && exec "$0" "$@"', *words]
         source = {"input": stdin} if isinstance(stdin, bytes) else {"stdin": stdin}
         streams = {**source, "stdout": stdout, "stderr": stderr}
         changed = before if user or longest is not None else None

@@ -30,6 +30,9 @@ def test_wrong_words(suite):
         (["draw", "--marked", "--marked", "x"], "the argument '--marked' cannot be used multiple times"),
         (["draw", "--slot", "x"], "unexpected argument '--slot' found"),
         (["draws", "x"], "unrecognized subcommand 'draws'"),
+        (["explain", "--marked", "x"], "unexpected argument '--marked' found"),
+        (["explain"], "the following required arguments were not provided"),
+        (["help", "walk"], "unrecognized subcommand 'walk'"),
     ]:
         output, told, status = suite.run(words)
         first = told.decode().split("\n")[0]
@@ -49,12 +52,67 @@ def test_help(suite):
         (["help", "map"], b"Run a script and print a map"),
         (["draw", "--help"], b"Run a script and print a page"),
         (["help", "draw"], b"Run a script and print a page"),
+        (["explain", "--help"], b"Run a script and say of each bad line"),
+        (["help", "explain"], b"Run a script and say of each bad line"),
+        (["help", "-h"], b"The memory of a desktop"),
+        (["help", "--help"], b"The memory of a desktop"),
         (["check", "--help"], b"Say whether"),
     ]:
         output, told, status = suite.run(words)
         is_once = output.startswith(head) and output.count(b"Usage: ") == 1 and output.count(b"Exit status:") == 1
         suite.is_true(" ".join(words), is_once and told == b"" and status == 0)
-    suite.ends("--version", ["--version"], b"vervainfile 1.0.0\n", b"", 0)
+    for words in [["--version"], ["-V"], *([verb, it] for verb in (*SCRIPT_VERBS, "check", "help") for it in ("--version", "-V"))]:
+        suite.ends(" ".join(words), words, b"vervainfile 1.0.0\n", b"", 0)
+
+
+# Below the first line of what is told of wrong words stands what helps.
+HINTS = [
+    (["hello.desk"], "to run a script: vervainfile run hello.desk"),
+    (["./check", "a=b"], "to run a script: vervainfile run ./check"),
+    (["chess.desk"], "to run a script: vervainfile run chess.desk"),
+    (["a\tb.desk"], "to run a script: vervainfile run a\\x09b.desk"),
+    (["help", "walk"], "help has run, explain, map, draw, check and commands of scripts, as alloc"),
+    (["--pages", "8", "run", "x"], "options stand behind the command, as in run --pages 8 hello.desk"),
+    (["run", "--marked", "x"], "--marked belongs to map and draw"),
+    (["explain", "x", "--marked"], "--marked belongs to map and draw"),
+    (["run", "--slot", "x"], "--slot belongs to check"),
+    (["draw", "--slot", "x"], "--slot belongs to check"),
+    (["check", "--pages", "8", "x"], "--pages belongs to run, explain, map and draw"),
+    (["draw", "-o", "x.html", "x"], "what is written goes to standard output: add >FILE"),
+    (["map", "--output", "x.map", "x"], "what is written goes to standard output: add >FILE"),
+    (["check", "x", "y"], "one file is checked"),
+]
+
+
+def test_hints(suite):
+    """What helps with wrong words stands below the first line, and no tip leads to a script of an option's name."""
+    for words, hint in HINTS:
+        output, told, status = suite.run(words)
+        lines = told.decode().split("\n")
+        is_below = lines[0].startswith("error: ") and lines[1] == f"  {hint}" and lines[2] == ""
+        no_tip = not any(it.startswith("  tip: to pass") for it in lines) and "\n\n\n" not in told.decode()
+        suite.is_true(" ".join(words), is_below and no_tip and (output, status) == (b"", 2))
+
+
+def test_tips(suite):
+    """A tip on a command stands where a command was perhaps meant, and not where a path was."""
+    for words, is_there in [(["draws", "x"], True), (["chek", "x"], True), (["check.desk"], False), (["./draw"], False)]:
+        told = suite.run(words)[1].decode()
+        suite.is_true(" ".join(words), ("\n  tip: a similar subcommand exists: '" in told) == is_there)
+
+
+def test_words_without_hints(suite):
+    """Below other wrong words stands no hint."""
+    for words in [["run"], ["run", "--pages", "7", "x"], ["run", "-x"], ["map", "--marked", "--marked", "x"]]:
+        lines = suite.run(words)[1].decode().split("\n")
+        suite.is_true(" ".join(words), lines[0].startswith("error: ") and not lines[1].startswith("  to ") and
+                      not lines[1].startswith("  -"))
+
+
+def test_control_bytes(suite):
+    """No control byte of a wrong word but a line feed is told as it is."""
+    told = suite.run(["\x1b[31mred.desk\x07"])[1]
+    suite.is_true("control bytes", b"\x1b" not in told and b"\x07" not in told and told.count(b"\\x1b[31mred.desk\\x07") == 2)
 
 
 def test_words_that_are_no_text(suite):

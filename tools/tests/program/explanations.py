@@ -1,0 +1,241 @@
+"""Explanations of bad lines and refused commands, and the help of each command of a script."""
+
+import os
+import pathlib
+import re
+
+TOP = pathlib.Path(__file__).resolve().parents[3]
+FORMATS = (TOP / "docs/FORMATS.md").read_text()
+SENTENCES = (TOP / "crates/rh_explained/specs/Sentences.antt").read_text()
+PAGE = (TOP / "web/words.js").read_text()
+EXAMPLES = TOP / "examples"
+
+# A script's last line, and what is said of it. Before it stand the lines of BEFORE.
+BEFORE = ["task a 100", "task b 100", "alloc a 0 5", "alloc a 1 5", "save a 0 b doc", "poll b"]
+NUMBER = len(BEFORE) + 1
+LINES = [
+    # Bad lines.
+    ("tsk a", ', word 1 "tsk": no command has this name', None),
+    ("task", ": expected task NAME BUF, task NAME BUF deaf or task NAME BUF file", None),
+    ("task a 0", ', word 3 "0": a receive buffer has 1 to 65536 bytes', None),
+    ("task a 1 dead", ', word 4 "dead": this word is deaf or file, or left out', None),
+    ("rma", ": expected rma claim N, rma free ADDR or rma resize ADDR DELTA", None),
+    ("rma x 1", ', word 2 "x": this word is claim, free or resize', None),
+    ("rma claim", ": expected rma claim N", None),
+    ("rma claim x", ', word 3 "x": a size is 0 to 2147483647', None),
+    ("rma free 0", ', word 3 "0": an address is & and 1 to 8 hexadecimal digits', None),
+    ("rma resize &1 -", ', word 4 "-": an amount is 0 to 2147483647, with - before it or not', None),
+    ("alloc a 64 1", ', word 3 "64": an anchor is 0 to 63', None),
+    ("alloc a 0", ": expected alloc NAME A N", None),
+    ("alloc 1a 0 1", ', word 2 "1a": a name is a letter, then up to 11 letters or digits', None),
+    ("load a 2 1f", ', word 4 "1f": a name is a letter, then up to 11 letters or digits', None),
+    ("put a 0 0 abc", ', word 5 "abc": bytes are hexadecimal digits, two for each', None),
+    ("put a 0 x 00", ', word 4 "x": an offset is 0 to 2147483647', None),
+    ("mid a 0 0 x", ', word 5 "x": an amount is 0 to 2147483647, with - before it or not', None),
+    ("area 65536 1", ', word 2 "65536": an area is 0 to 65535', None),
+    ("make 0", ', word 2 "0": the most pages of an area are 1 to 1024', None),
+    ("remove 255", ', word 2 "255": a made area is 256 to 65535', None),
+    ("cancel a on", ', word 3 "on": this word is in or out', None),
+    ("cancel a in 0", ', word 4 "0": an id is 1 to 4294967295', None),
+    ("budge a in", ', word 3 "in": this word is on or off', None),
+    ("kill abcdefghijklmnopq", ', word 2 "abcdefghijklmnop..": a name is a letter, then up to 11 letters or digits', None),
+    ("save a 1 b 12345678901", ', word 5 "12345678901": a leafname has 1 to 10 characters', None),
+    ("  areas   1 ", ": expected areas", None),
+    ("areas\r", " ends in a carriage return", "end lines with a line feed alone"),
+    ("\r", " ends in a carriage return", "end lines with a line feed alone"),
+    ("\tareas", " has a tab", "part words by spaces"),
+    ("blocks\xa0a", " has the byte &C2, which no word may have", "words have characters from ! to ~ alone"),
+    ("heap a\x1b", " has the byte &1B, which no word may have", "words have characters from ! to ~ alone"),
+    ("#" * 1025, " has more than 1024 bytes", "several lines may write what one may not: put NAME A OFF HEX"),
+    # Refused commands.
+    ("task a 5", ": a live task has this name already: a", "take another name, or kill that task first"),
+    ("blocks z", ": no live task has this name: z", "start it by task NAME BUF; upper and lower case differ"),
+    ("load a 2 g", ": no file has this name: g", "name it behind the script, as NAME=PATH"),
+    ("show a 9", ": this anchor has no block: 9", "alloc or load puts a block there"),
+    ("alloc a 0 1", ": this anchor has a block already: 0", "take another anchor, or free that block first"),
+    ("release a &8118", ": no used block begins at this address: &8118",
+     "claim answered the address, and heap lists those of the C heap"),
+    ("rma free &1800054", ": a message lies in this block of the module area: &1800054",
+     "a block of messages goes when they are taken"),
+    ("put a 0 0 00", ": a transfer uses the block: transfer 1 sends it",
+     "poll until the transfer has ended, or cancel it"),
+    ("free b 0", ": a transfer uses the block: transfer 1 receives into it",
+     "poll until the transfer has ended, or cancel it"),
+    ("release b &8114", ": a transfer uses the block: transfer 1 has it as its buffer",
+     "poll until the transfer has ended, or cancel it"),
+    ("cancel b out", ": no such transfer can be given up", "status lists the transfers"),
+    ("put a 1 0 000000000000", ": offset or bytes lie outside the block: its size is 5",
+     "blocks lists the sizes, and extend makes a block longer"),
+    ("claim a 0", ": a block of a heap has at least 1 byte", None),
+    ("area 3 -1", ": the area would lose more than it can", "areas lists the pages of each area"),
+    ("save a 1 q doc", ": the task that this is for isn't live: q", "start the recipient first"),
+    ("alloc a 2 2147483647", ": the pool has too few free pages: 59",
+     "areas lists the pages; free some, or begin with more by --pages"),
+    ("area 300 1", ": no area has this number: 300", "areas lists the numbers, and make makes an area"),
+]
+
+
+def explained(number, line, said, helps):
+    """What is written of a line."""
+    shown = line if len(line) <= 72 else line[:72] + ".."
+    shown = re.sub(r"[\x00-\x1f\x7f]", lambda it: f"\\x{ord(it[0]):02x}", shown)
+    return f"line {number}{said}\n  {shown}\n" + (f"  {helps}\n" if helps else "")
+
+
+def script_of(*lines):
+    """The bytes of a script."""
+    return "".join(f"{it}\n" for it in lines).encode()
+
+
+def test_lines(suite):
+    """Each bad line and each refused command is explained, with its number, and ends with 1."""
+    for line, said, helps in LINES:
+        wanted = explained(NUMBER, line, said, helps).encode()
+        suite.ends(f"explain {line!r}", ["explain", "-"], wanted, b"", 1, stdin=script_of(*BEFORE, line))
+
+
+def test_lines_one_after_the_other(suite):
+    """Lines that are skipped count, and each fault is explained in its turn."""
+    lines = ["# a remark", "", "tsk", "task a 100", "alloc a 64 1", "   ", "kill b", "areas"]
+    wanted = (explained(3, "tsk", ', word 1 "tsk": no command has this name', None)
+              + explained(5, "alloc a 64 1", ', word 3 "64": an anchor is 0 to 63', None)
+              + explained(7, "kill b", ": no live task has this name: b", "start it by task NAME BUF; upper and lower case differ"))
+    suite.ends("explain lines", ["explain", "-"], wanted.encode(), b"", 1, stdin=script_of(*lines))
+    pathlib.Path("lines.desk").write_bytes(script_of(*lines))
+    suite.ends("explain a file", ["explain", "--pages", "8", "lines.desk"], wanted.encode(), b"", 1)
+
+
+def test_cut_lines(suite):
+    """A line that was cut is explained, long or short."""
+    for line, said, helps in [
+        ("areas", " is cut: the script ends without a line feed", "end the last line with a line feed"),
+        ("areas\r", " is cut: the script ends without a line feed", "end the last line with a line feed"),
+        ("a" * 1025, " has more than 1024 bytes", "several lines may write what one may not: put NAME A OFF HEX"),
+    ]:
+        wanted = explained(2, line, said, helps).encode()
+        suite.ends(f"explain a cut {line[:8]}", ["explain", "-"], wanted, b"", 1, stdin=f"areas\n{line}".encode())
+
+
+def test_clean_scripts(suite):
+    """Nothing is written of a script with no bad line and no refusal, and it ends with 0."""
+    for script in (b"", b"areas\n", script_of(*BEFORE), b"# only a remark"[:0]):
+        suite.ends(f"explain {script[:16]}", ["explain", "-"], b"", b"", 0, stdin=script)
+
+
+def test_many_transfers(suite):
+    """Where eight transfers go out, the ninth is refused for that."""
+    lines = ["task a 100", "task b 100 deaf", *(f"alloc a {k} 1" for k in range(9)), *(f"save a {k} b doc" for k in range(9))]
+    wanted = explained(len(lines), lines[-1], ": eight transfers that go out are open",
+                       "poll until the transfer has ended, or cancel it").encode()
+    suite.ends("explain nine saves", ["explain", "-"], wanted, b"", 1, stdin=script_of(*lines))
+
+
+def words_of(script):
+    """The words that an example is run with."""
+    args = script.with_suffix(".args")
+    files = script.with_suffix(".files")
+    return [*(args.read_text().split() if args.exists() else []), script.name,
+            *(files.read_text().split() if files.exists() else [])]
+
+
+def faults_of(replies):
+    """How many replies say that a line was bad or a command refused."""
+    return sum(it.split()[0] in ("bad", "refused") for it in replies.decode().splitlines() if it.strip())
+
+
+def test_examples(suite):
+    """Of each example each bad line and each refused command is explained, and no other."""
+    here = pathlib.Path.cwd()
+    os.chdir(EXAMPLES)
+    for script in sorted(EXAMPLES.glob("*.desk")):
+        words = words_of(script)
+        replies, _, _ = suite.run(["run", *words])
+        told, errors, status = suite.run(["explain", *words])
+        heads = [it for it in told.decode("latin-1").splitlines() if it.startswith("line ")]
+        suite.is_true(f"explain {script.name}", len(heads) == faults_of(replies) and status == bool(heads) and errors == b"")
+    os.chdir(here)
+
+
+def forms_of_docs():
+    """The forms of commands, as docs/FORMATS.md has them."""
+    block = FORMATS.partition("```\ntask NAME")[2].partition("```")[0]
+    return [it.strip() for it in re.split(r" {2,}|\n", "task NAME" + block) if it.strip()]
+
+
+def refusals_of_definitions():
+    """The refusals with what is said of each, as the definitions have them."""
+    return dict(re.findall(r'^why (\w+) = codes "(.*)"$', SENTENCES, re.MULTILINE))
+
+
+def commands_of_docs():
+    """The words behind `help` for each command of a script."""
+    return sorted({tuple(it.split()[:2 if it.startswith("rma") else 1]) for it in forms_of_docs()} | {("rma",)})
+
+
+def help_of(suite, command):
+    """The help of a command: its forms, what it does, and the lines behind that."""
+    head, *lines = suite.run(["help", *command])[0].decode().splitlines()
+    count = next((i for i, it in enumerate(lines) if it.startswith("  ")), len(lines))
+    suite.is_true(f"help {command}: width", max(map(len, [head, *lines])) <= 79)
+    return head, " ".join(lines[:count]), lines[count:]
+
+
+def forms_in(head):
+    """The forms that the first line of a command's help has: what stands in brackets may be left out."""
+    forms = re.split(r", | or ", head)
+    return {re.sub(r" \[.*\]", "", it) for it in forms} | {it.replace("[", "").replace("]", "") for it in forms}
+
+
+def test_help_of_commands(suite):
+    """The help of a command has its forms, what it does and why it may be refused, as documents and definitions have it."""
+    refusals = refusals_of_definitions()
+    suite.is_true("all refusals are said", len(refusals) == 24)
+    for command in commands_of_docs():
+        told, status = suite.run(["help", *command])[1:]
+        head, deed, others = help_of(suite, command)
+        forms = {it for it in forms_of_docs() if tuple(it.split())[:len(command)] == command}
+        suite.is_true(f"help {command}: ends", (told, status) == (b"", 0))
+        suite.is_true(f"help {command}: forms", forms_in(head) == forms)
+        suite.is_true(f"help {command}: deed", re.fullmatch(r"[A-Z].*\.", deed) is not None)
+        said = [re.fullmatch(r"  refused (\w+): (.*)", it) for it in others if it.startswith("  refused ")]
+        suite.is_true(f"help {command}: refusals", all(it and refusals.get(it[1]) == it[2] for it in said))
+        names = [it[1] for it in said if it]
+        suite.is_true(f"help {command}: order", names == [it for it in refusals if it in names])
+
+
+def test_refusals_of_examples_are_in_the_help(suite):
+    """Each refusal that an example's command has is one that its help names."""
+    here = pathlib.Path.cwd()
+    os.chdir(EXAMPLES)
+    named = {it: suite.run(["help", *it])[0].decode() for it in commands_of_docs()}
+    for script in sorted(EXAMPLES.glob("*.desk")):
+        replies = [it for it in suite.run(["run", *words_of(script)])[0].decode().splitlines() if not it.startswith("  ")]
+        lines = [it for it in script.read_bytes().decode("latin-1").split("\n") if it.split() and not it.split()[0].startswith("#")]
+        for line, reply in zip(lines, replies):
+            if reply.startswith("refused "):
+                words = tuple(line.split()[:2 if line.split()[0] == "rma" else 1])
+                suite.is_true(f"{line}: {reply}", f"  {reply}: " in named[words])
+    os.chdir(here)
+
+
+def test_the_page_says_the_same(suite):
+    """The page's help has the sentences of the program's: what a form does, and why a command is refused."""
+    deeds = dict(re.findall(r'\["([a-z]+(?: [^"]*)?)", "([^"]*)"', PAGE))
+    said = {}
+    for command in commands_of_docs():
+        form, deed, others = help_of(suite, command)
+        said.update(re.findall(r"^  refused (\w+): (.*)$", "\n".join(others), re.MULTILINE))
+        if form in deeds:
+            suite.is_true(f"the page on {form}", deeds[form] == deed)
+    page = re.findall(r'^  (\w+): "([^"]*)",$', PAGE.partition("REFUSALS = {")[2].partition("};")[0], re.MULTILINE)
+    suite.is_true("the page has all refusals", len(page) == 24 and said.keys() == dict(page).keys())
+    for name, text in page:
+        same = text.replace("is called NAME", "has this name").replace("NAME has", "The task has").replace("’", "'")
+        suite.is_true(f"the page on {name}", same.startswith(said[name][0].upper() + said[name][1:]))
+
+
+def test_no_such_help(suite):
+    """Behind `help` no other words than a command's are taken."""
+    for words in [["help", "alloc", "a"], ["help", "malloc"], ["help", "rma", "claim", "x"], ["help", "run", "x"]]:
+        output, told, status = suite.run(words)
+        suite.is_true(f"{words}", output == b"" and told != b"" and status == 2)
