@@ -10,8 +10,8 @@
  * It compiles as C99 or any later C, as C++, and as C89 where <stdint.h> and <stdbool.h> are there.
  *
  * Version, statuses, your duties, the calls of OS_Heap, the same with a map beside the heap, the same on any bytes,
- * flex, the C heap below flex, a slot in any bytes, the desk, transfers of your own tasks, messages, and null pointers:
- * in this order.
+ * flex, the C heap below flex, a slot in any bytes, wide slots, the desk, transfers of your own tasks, messages, and
+ * null pointers: in this order.
  * docs/C.md says more: what each Acorn call becomes, what a call costs, and what of it is proved.
  */
 #ifndef VERVAINFILE_H
@@ -49,7 +49,8 @@ extern "C" {
  *
  * Where several hold, the first is answered: VF_NULL before all others, then those that the head of the call's part
  * says all its calls test, then those of the call's own comment. Each list names them in the order in which they are
- * tested. Refusals are tested in the order of their numbers, and after what has a number from 32 on.
+ * tested. Refusals are tested in the order of their numbers, but where a comment says "in this order", and after what
+ * has a number from 32 on.
  */
 enum {
     VF_OK = 0,                 /* all was done */
@@ -85,7 +86,7 @@ enum {
     VF_BAD_DESCRIPTOR = 35,    /* the first 16 bytes are not those of a heap */
     VF_BAD_LINK = 36,          /* a link does not lead to a hole ahead */
     VF_BAD_SEGMENT = 37,       /* a size is not that of a segment */
-    VF_BAD_ANCHOR = 38,        /* a slot has the anchors 0 to 63 */
+    VF_BAD_ANCHOR = 38,        /* the slot has no anchor with the number */
     VF_NO_SLOT = 39,           /* the slot has no page: it was never started */
     VF_BAD_FLEX_BLOCK = 40,    /* a flex block goes past the end of the slot's pages */
     VF_BAD_ANCHOR_WORD = 41,   /* an anchor word is not 0, and leads to no flex block that names it */
@@ -133,7 +134,7 @@ enum {
     text(VF_BAD_DESCRIPTOR, "the first 16 bytes are not those of a heap")                                            \
     text(VF_BAD_LINK, "a link does not lead to a hole ahead")                                                        \
     text(VF_BAD_SEGMENT, "a size is not that of a segment")                                                          \
-    text(VF_BAD_ANCHOR, "a slot has the anchors 0 to 63")                                                            \
+    text(VF_BAD_ANCHOR, "the slot has no anchor with the number")                                                    \
     text(VF_NO_SLOT, "the slot has no page: it was never started")                                                   \
     text(VF_BAD_FLEX_BLOCK, "a flex block goes past the end of the slot's pages")                                    \
     text(VF_BAD_ANCHOR_WORD, "an anchor word is not 0, and leads to no flex block that names it")                    \
@@ -179,7 +180,8 @@ uint32_t vf_version(void);
  * 4. Of the calls on slots without `checked` in their names, vf_flex_start aside: `slot` and the bytes of its pages are
  *    a slot, so that vf_flex_check would answer VF_OK. They are one after vf_flex_start, and after each call, as long
  *    as you write to nothing but the bytes of your blocks. Where they are none the calls may read and write anywhere.
- *    What `len` and `slot` alone can tell each call tests.
+ *    What `len` and `slot` alone can tell each call tests. So it is with wide slots after vf_flex_start_with; there the
+ *    bytes that vf_flex_wide_budge gave are yours too.
  * 5. Of the calls on heaps with `indexed` in their names: `map` is a map of the heap, with the bits that vf_heap_index
  *    would set. It is one after vf_heap_index, and after each of these calls, as long as nothing else writes to it or
  *    changes the heap. Where it is none they may read and write anywhere.
@@ -421,6 +423,79 @@ uint32_t vf_flex_checked_resize(uint8_t *memory, size_t len, struct vf_slot *slo
                                 size_t *moved_to);
 uint32_t vf_flex_checked_block_size(const uint8_t *memory, size_t len, const struct vf_slot *slot, size_t place,
                                     size_t *size);
+
+/* ---- Wide slots ----------------------------------------------------------------------------------------------------
+ *
+ * A wide slot has flex blocks of 64 to 4,096 anchors, and no C heap. Its memory begins with two words of four bytes for
+ * each anchor: the place of its block, 0 where it has none, and the block's size. Then come the bytes that
+ * vf_flex_wide_budge gave, which are yours. The blocks lie from `base` up to `top` of the struct, without a gap: one of
+ * n bytes takes n and one to eight more, up to a multiple of 8. What is behind `top` is free, and yours between calls.
+ *
+ * A block is told by its anchor, and stands at a place as in any slot, here a multiple of 8. It holds as long as the
+ * count `slides` does: free, extend, midextend and budge add 1 to it where they have moved a block. Slides take longer
+ * where a slot has more anchors and blocks.
+ *
+ * Each call tests first, and has changed nothing then: VF_NULL; VF_BAD_LENGTH where `len` is below 512 or above 1 GiB;
+ * VF_NO_SLOT; VF_SHORT where `top` exceeds `len`; VF_BAD_ANCHOR where there is an anchor. A refused call leaves all
+ * `len` bytes and the struct. All of it is proved. The calls rely on the struct and on the words and blocks as the last
+ * call left them, save for the bytes of blocks: they have no twins for any bytes.
+ */
+
+/* What of a wide slot does not stand in its bytes, as struct vf_slot of a slot. */
+struct vf_wide_slot {
+    size_t base;      /* the place where the blocks begin */
+    size_t top;       /* the place where they end */
+    uint32_t anchors; /* how many anchors it has, from 0 on */
+    uint32_t slides;  /* how many calls have moved a block; behind 4,294,967,295 comes 0 */
+};
+
+/* flex_init: makes the bytes a slot with so many anchors and no block, whatever lay there. VF_BAD_LENGTH; VF_BAD_ANCHOR
+ * where `anchors` is below 64 or above 4,096; then VF_NO_ROOM where `len` is below 8 for each. */
+uint32_t vf_flex_start_with(uint8_t *memory, size_t len, struct vf_wide_slot *slot, uint32_t anchors);
+
+/* flex_alloc: puts a block of `n` bytes on top, all of them 0, and tells its place. `n` may be 0. VF_ANCHOR_IN_USE,
+ * VF_NO_ROOM. */
+uint32_t vf_flex_wide_alloc(uint8_t *memory, size_t len, struct vf_wide_slot *slot, uint32_t anchor, size_t n,
+                            size_t *place);
+
+/* flex_free: takes the anchor's block away. Those above it come down. VF_NO_BLOCK. */
+uint32_t vf_flex_wide_free(uint8_t *memory, size_t len, struct vf_wide_slot *slot, uint32_t anchor);
+
+/* flex_size: tells how many bytes the anchor's block has. VF_NO_BLOCK. */
+uint32_t vf_flex_wide_size(const uint8_t *memory, size_t len, const struct vf_wide_slot *slot, uint32_t anchor,
+                           size_t *size);
+
+/* flex_extend: cuts the anchor's block to `n` bytes, or gives it bytes up to `n`, which are 0. Those above it slide.
+ * VF_NO_BLOCK, VF_NO_ROOM. */
+uint32_t vf_flex_wide_extend(uint8_t *memory, size_t len, struct vf_wide_slot *slot, uint32_t anchor, size_t n);
+
+/* flex_midextend: puts `by` bytes, which are 0, into the anchor's block at an offset, or where `by` is below 0 takes as
+ * many before the offset out. VF_NO_BLOCK, VF_BAD_RANGE, VF_NO_ROOM, as vf_flex_midextend. */
+uint32_t vf_flex_wide_midextend(uint8_t *memory, size_t len, struct vf_wide_slot *slot, uint32_t anchor, size_t offset,
+                                ptrdiff_t by);
+
+/* Tells where the anchor's block stands. VF_NO_BLOCK. */
+uint32_t vf_flex_wide_place(const uint8_t *memory, size_t len, const struct vf_wide_slot *slot, uint32_t anchor,
+                            size_t *place);
+
+/* Tells where the blocks of the first `places_len` anchors stand, 0 for one that has none and beyond the last anchor.
+ * No refusal but those of all calls. */
+uint32_t vf_flex_wide_places(const uint8_t *memory, size_t len, const struct vf_wide_slot *slot, size_t *places,
+                             size_t places_len);
+
+/* Writes `from_len` bytes into the anchor's block, from an offset on. VF_NO_BLOCK, VF_BAD_RANGE where they would go
+ * beyond its end. */
+uint32_t vf_flex_wide_put(uint8_t *memory, size_t len, struct vf_wide_slot *slot, uint32_t anchor, size_t offset,
+                          const uint8_t *from, size_t from_len);
+
+/* Fills `to` with `to_len` bytes of the anchor's block, from an offset on. VF_NO_BLOCK, VF_BAD_RANGE where there are
+ * fewer; then `to` stays. */
+uint32_t vf_flex_wide_read(const uint8_t *memory, size_t len, const struct vf_wide_slot *slot, uint32_t anchor,
+                           size_t offset, uint8_t *to, size_t to_len);
+
+/* flex_budge: gives you `n` bytes below the blocks, or up to seven more for a multiple of 8, and tells where they
+ * begin; all blocks slide up for that. They are behind those that were given before, and stay yours. VF_NO_ROOM. */
+uint32_t vf_flex_wide_budge(uint8_t *memory, size_t len, struct vf_wide_slot *slot, size_t n, size_t *place);
 
 /* ---- The desk ------------------------------------------------------------------------------------------------------
  *
@@ -703,6 +778,48 @@ uint32_t vf_desk_status(struct vf_desk *desk, const uint8_t *name, size_t name_l
 /* OS_ReadDynamicArea and Wimp_SlotSize: tells how many pages are free, and lists areas 0 to 5, the made areas in
  * order of number, and the slots in order of handle, at most 70. */
 uint32_t vf_desk_areas(struct vf_desk *desk, uint32_t *free, struct vf_area *areas, size_t areas_len, size_t *count);
+
+/* -- bytes of blocks, where they lie --
+ *
+ * A block is told by the address of its first byte, as a claim or a list tells it, and bytes of it by an offset from
+ * there on. All that are read or written lie in the block, or it is VF_BAD_RANGE. A read takes any offset, and one of
+ * no byte tells the size alone. A write has a byte at least, and an offset of at most 2,147,483,647, or it is
+ * VF_BAD_ARGUMENT.
+ */
+
+/* Tells how many bytes the anchor's block has, and fills `to` with those from an offset on. VF_NO_NAME, VF_NO_BLOCK,
+ * VF_BAD_RANGE. */
+uint32_t vf_desk_show_at(struct vf_desk *desk, const uint8_t *name, size_t name_len, uint32_t anchor, uint32_t offset,
+                         uint8_t *to, size_t to_len, uint32_t *size);
+
+/* Tells how many bytes the block at an address of the task's slot has, a flex block or one of the C heap, and fills
+ * `to` with those from an offset on. VF_NO_NAME, VF_NOT_A_BLOCK where no block of either kind begins there,
+ * VF_BAD_RANGE. */
+uint32_t vf_desk_read(struct vf_desk *desk, const uint8_t *name, size_t name_len, uint32_t address, uint32_t offset,
+                      uint8_t *to, size_t to_len, uint32_t *size);
+
+/* Writes bytes into the block at an address of the task's slot, a flex block or one of the C heap, from an offset on: a
+ * flex block as vf_desk_put does. Of the desk these bytes change alone. VF_NO_NAME, VF_NOT_A_BLOCK where no block of
+ * either kind begins there, VF_BUSY, VF_BAD_RANGE. */
+uint32_t vf_desk_write(struct vf_desk *desk, const uint8_t *name, size_t name_len, uint32_t address, uint32_t offset,
+                       const uint8_t *from, size_t from_len);
+
+/* Tells how many bytes the block at an address of the module area has, and fills `to` with those from an offset on.
+ * VF_NOT_A_BLOCK, VF_NOT_YOURS where it has a message, VF_BAD_RANGE. */
+uint32_t vf_desk_rma_read(struct vf_desk *desk, uint32_t address, uint32_t offset, uint8_t *to, size_t to_len,
+                          uint32_t *size);
+
+/* Writes bytes into the block at an address of the module area, from an offset on. VF_NOT_A_BLOCK, VF_NOT_YOURS where
+ * it has a message, VF_BAD_RANGE. */
+uint32_t vf_desk_rma_write(struct vf_desk *desk, uint32_t address, uint32_t offset, const uint8_t *from,
+                           size_t from_len);
+
+/* Wimp_TransferBlock: moves `n` bytes from an address in the slot of one task to an address in the slot of another, or
+ * in its own. Tasks are told by their handles, and an address may lie anywhere in a block. Whether a transfer uses the
+ * blocks is not looked at. In this order: VF_NO_TASK where a task is not live, VF_BAD_RANGE where either range does not
+ * lie whole in one live block, or where the two share a byte. */
+uint32_t vf_desk_transfer(struct vf_desk *desk, uint32_t from, uint32_t address, uint32_t to, uint32_t address2,
+                          uint32_t n);
 
 /* -- lines -- */
 
@@ -1088,6 +1205,42 @@ VF_BOTH_UNLESS_NULL(vf_flex, block_size,
                     (const uint8_t *memory, size_t len, const struct vf_slot *slot, size_t place, size_t *size),
                     memory && slot && size, (memory, len, slot, place, size))
 
+VF_UNLESS_NULL(vf_flex_start_with,
+               (uint8_t *memory, size_t len, struct vf_wide_slot *slot, uint32_t anchors),
+               memory && slot, (memory, len, slot, anchors))
+VF_UNLESS_NULL(vf_flex_wide_alloc,
+               (uint8_t *memory, size_t len, struct vf_wide_slot *slot, uint32_t anchor, size_t n, size_t *place),
+               memory && slot && place, (memory, len, slot, anchor, n, place))
+VF_UNLESS_NULL(vf_flex_wide_free,
+               (uint8_t *memory, size_t len, struct vf_wide_slot *slot, uint32_t anchor),
+               memory && slot, (memory, len, slot, anchor))
+VF_UNLESS_NULL(vf_flex_wide_size,
+               (const uint8_t *memory, size_t len, const struct vf_wide_slot *slot, uint32_t anchor, size_t *size),
+               memory && slot && size, (memory, len, slot, anchor, size))
+VF_UNLESS_NULL(vf_flex_wide_extend,
+               (uint8_t *memory, size_t len, struct vf_wide_slot *slot, uint32_t anchor, size_t n),
+               memory && slot, (memory, len, slot, anchor, n))
+VF_UNLESS_NULL(vf_flex_wide_midextend,
+               (uint8_t *memory, size_t len, struct vf_wide_slot *slot, uint32_t anchor, size_t offset, ptrdiff_t by),
+               memory && slot, (memory, len, slot, anchor, offset, by))
+VF_UNLESS_NULL(vf_flex_wide_place,
+               (const uint8_t *memory, size_t len, const struct vf_wide_slot *slot, uint32_t anchor, size_t *place),
+               memory && slot && place, (memory, len, slot, anchor, place))
+VF_UNLESS_NULL(vf_flex_wide_places,
+               (const uint8_t *memory, size_t len, const struct vf_wide_slot *slot, size_t *places, size_t places_len),
+               memory && slot && places, (memory, len, slot, places, places_len))
+VF_UNLESS_NULL(vf_flex_wide_put,
+               (uint8_t *memory, size_t len, struct vf_wide_slot *slot, uint32_t anchor, size_t offset, const uint8_t
+                *from, size_t from_len),
+               memory && slot && from, (memory, len, slot, anchor, offset, from, from_len))
+VF_UNLESS_NULL(vf_flex_wide_read,
+               (const uint8_t *memory, size_t len, const struct vf_wide_slot *slot, uint32_t anchor, size_t offset,
+                uint8_t *to, size_t to_len),
+               memory && slot && to, (memory, len, slot, anchor, offset, to, to_len))
+VF_UNLESS_NULL(vf_flex_wide_budge,
+               (uint8_t *memory, size_t len, struct vf_wide_slot *slot, size_t n, size_t *place),
+               memory && slot && place, (memory, len, slot, n, place))
+
 VF_UNLESS_NULL(vf_desk_file,
                (struct vf_desk *desk, const uint8_t *name, size_t name_len, const uint8_t *bytes, size_t bytes_len),
                desk && name && bytes, (desk, name, name_len, bytes, bytes_len))
@@ -1192,6 +1345,27 @@ VF_UNLESS_NULL(vf_desk_status,
 VF_UNLESS_NULL(vf_desk_areas,
                (struct vf_desk *desk, uint32_t *free, struct vf_area *areas, size_t areas_len, size_t *count),
                desk && free && areas && count, (desk, free, areas, areas_len, count))
+VF_UNLESS_NULL(vf_desk_show_at,
+               (struct vf_desk *desk, const uint8_t *name, size_t name_len, uint32_t anchor, uint32_t offset,
+               uint8_t *to, size_t to_len, uint32_t *size),
+               desk && name && to && size, (desk, name, name_len, anchor, offset, to, to_len, size))
+VF_UNLESS_NULL(vf_desk_read,
+               (struct vf_desk *desk, const uint8_t *name, size_t name_len, uint32_t address, uint32_t offset,
+               uint8_t *to, size_t to_len, uint32_t *size),
+               desk && name && to && size, (desk, name, name_len, address, offset, to, to_len, size))
+VF_UNLESS_NULL(vf_desk_write,
+               (struct vf_desk *desk, const uint8_t *name, size_t name_len, uint32_t address, uint32_t offset,
+               const uint8_t *from, size_t from_len),
+               desk && name && from, (desk, name, name_len, address, offset, from, from_len))
+VF_UNLESS_NULL(vf_desk_rma_read,
+               (struct vf_desk *desk, uint32_t address, uint32_t offset, uint8_t *to, size_t to_len, uint32_t *size),
+               desk && to && size, (desk, address, offset, to, to_len, size))
+VF_UNLESS_NULL(vf_desk_rma_write,
+               (struct vf_desk *desk, uint32_t address, uint32_t offset, const uint8_t *from, size_t from_len),
+               desk && from, (desk, address, offset, from, from_len))
+VF_UNLESS_NULL(vf_desk_transfer,
+               (struct vf_desk *desk, uint32_t from, uint32_t address, uint32_t to, uint32_t address2, uint32_t n),
+               desk, (desk, from, address, to, address2, n))
 VF_UNLESS_NULL(vf_desk_line,
                (struct vf_desk *desk, const uint8_t *line, size_t line_len),
                desk && line, (desk, line, line_len))
@@ -1311,6 +1485,17 @@ VF_UNLESS_NULL(vf_message_decode,
 #define vf_flex_start vf_flex_start_unless_null
 #define vf_flex_check vf_flex_check_unless_null
 #define vf_flex_set_budge vf_flex_set_budge_unless_null
+#define vf_flex_start_with vf_flex_start_with_unless_null
+#define vf_flex_wide_alloc vf_flex_wide_alloc_unless_null
+#define vf_flex_wide_free vf_flex_wide_free_unless_null
+#define vf_flex_wide_size vf_flex_wide_size_unless_null
+#define vf_flex_wide_extend vf_flex_wide_extend_unless_null
+#define vf_flex_wide_midextend vf_flex_wide_midextend_unless_null
+#define vf_flex_wide_place vf_flex_wide_place_unless_null
+#define vf_flex_wide_places vf_flex_wide_places_unless_null
+#define vf_flex_wide_put vf_flex_wide_put_unless_null
+#define vf_flex_wide_read vf_flex_wide_read_unless_null
+#define vf_flex_wide_budge vf_flex_wide_budge_unless_null
 #define vf_flex_checked_alloc vf_flex_checked_alloc_unless_null
 #define vf_flex_checked_free vf_flex_checked_free_unless_null
 #define vf_flex_checked_size vf_flex_checked_size_unless_null
@@ -1357,6 +1542,12 @@ VF_UNLESS_NULL(vf_message_decode,
 #define vf_desk_heap vf_desk_heap_unless_null
 #define vf_desk_status vf_desk_status_unless_null
 #define vf_desk_areas vf_desk_areas_unless_null
+#define vf_desk_show_at vf_desk_show_at_unless_null
+#define vf_desk_read vf_desk_read_unless_null
+#define vf_desk_write vf_desk_write_unless_null
+#define vf_desk_rma_read vf_desk_rma_read_unless_null
+#define vf_desk_rma_write vf_desk_rma_write_unless_null
+#define vf_desk_transfer vf_desk_transfer_unless_null
 #define vf_desk_line vf_desk_line_unless_null
 #define vf_desk_reply vf_desk_reply_unless_null
 #define vf_sender_start vf_sender_start_unless_null
