@@ -21,10 +21,12 @@ AT_FIRST = """(() => {
   for (const name of ['file', 'help']) {
     if (!document.querySelector(`#${name}`).hidden) document.querySelector(`#${name}-button`).click();
   }
-  const prompt = document.querySelector('#command');
-  prompt.focus();
-  prompt.value = '';
-  prompt.dispatchEvent(new Event('input'));
+  for (const name of ['find', 'command']) {
+    const field = document.querySelector(`#${name}`);
+    field.value = '';
+    field.dispatchEvent(new Event('input'));
+  }
+  document.querySelector('#command').focus();
 })()"""
 
 
