@@ -1,6 +1,6 @@
 // What the word at the end of a line may become, by the forms of commands and by what is live.
 
-import { FORMS, KINDS_OF_WORDS, isKind } from "./words.js";
+import { FORMS, isKind } from "./words.js";
 
 const ANCHORS = 64;
 // The first number of an area that was made.
@@ -38,7 +38,7 @@ export function formsFor(line) {
 // What is told of the word that is being typed: what its kind is in a form.
 export function aboutWord(form, line) {
   const kind = form.words[typedWords(line).length - 1];
-  return kind && isKind(kind) ? `${kind}: ${form.about[kind] ?? KINDS_OF_WORDS[kind].about}` : form.says;
+  return kind && isKind(kind) ? `${kind}: ${form.about[kind]}` : form.says;
 }
 
 const sized = ({ size }) => `${size} bytes`;

@@ -1,16 +1,28 @@
 // What a line that has run did, why it was refused, or what is wrong with it; and how a near miss is mended.
 
-import { bytesOf } from "./bytes.js";
+import { bytesOf, textOf } from "./bytes.js";
 import { mended } from "./mend.js";
-import { FORMS, KINDS_OF_WORDS, OTHER_WORDS, OUTCOMES, REFUSALS, isKind } from "./words.js";
+import { SENTENCES } from "./sentences.js";
+import { BUSY_SAVE, FORMS, OTHER_WORDS, OUTCOMES, REFUSALS, isKind, sentence } from "./words.js";
 
 const COMMANDS = [...new Set(FORMS.map(({ words }) => words[0]))];
+const KINDS_OF_COMMANDS = Object.values(SENTENCES.commands);
+const FAULTS = SENTENCES.faults;
+// Kinds of words that are numbers.
+const NUMBERS = ["Anchor", "Buffer", "Size", "Offset", "Amount", "AreaNumber", "MadeNumber", "MostPages", "Id"];
+// The word of a form that a refusal is about, by the function that finds it. What the desk alone has, as how many pages
+// are free, which transfer uses a block or how long a block is, the program tells and the page doesn't.
+const ABOUT = { name_in: "NAME", recipient_in: "TO", loaded_file: "FILE", anchor_in: "A", area_in: "K",
+  address_in: "ADDR" };
 // So many letters of a short word, or of a longer one, may be other than those of the command that was meant.
 const SHORT_WORD = 4;
 const MOST_OTHER = { short: 1, long: 2 };
-// The forms that are named at most where a command has other words.
-const NAMED_FORMS = 4;
 const HEX_BASE = 16;
+const CARRIAGE_RETURN = 13;
+const TAB = 9;
+// The bytes that a line of words may have.
+const FIRST_OF_WORDS = 32;
+const LAST_OF_WORDS = 126;
 // The fewest digits that are surely meant as an address.
 const ADDRESS = /^(?:0x|\$)?([0-9a-f]{3,8})$/i;
 const OTHER_NUMBER = /^(?:0x|&|\$)([0-9a-f]{1,8})$/i;
@@ -46,11 +58,10 @@ function formOf(line) {
     && form.words.every((word, at) => isKind(word) || word === words[at]));
 }
 
-// The forms that begin with the words of a line that are no kinds, as far as it has such.
-function formsLike([command, second]) {
-  const all = FORMS.filter(({ words }) => words[0] === command);
-  const closer = all.filter(({ words }) => words[1] === second);
-  return closer.length ? closer : all;
+// The kind of command that the first words of a line name; of two the one that more of them name.
+function kindOf(words) {
+  const named = KINDS_OF_COMMANDS.filter(({ own }) => own.every((word, at) => word === words[at]));
+  return named.sort((one, other) => other.own.length - one.own.length)[0];
 }
 
 // A line with another word at a place.
@@ -73,57 +84,85 @@ function meantBytes(word) {
 
 // What a word of a kind was meant to be, if that is clear.
 function meant(kind, word) {
-  if (kind === "HEX") return meantBytes(word);
-  if (kind === "ADDR") return ADDRESS.test(word) ? `&${ADDRESS.exec(word)[1].toUpperCase()}` : undefined;
-  if (!/number/.test(KINDS_OF_WORDS[kind].written)) return undefined;
+  if (kind === "Bytes") return meantBytes(word);
+  if (kind === "Address") return ADDRESS.test(word) ? `&${ADDRESS.exec(word)[1].toUpperCase()}` : undefined;
+  if (!NUMBERS.includes(kind)) return undefined;
   if (OTHER_NUMBER.test(word)) return String(parseInt(OTHER_NUMBER.exec(word)[1], HEX_BASE));
   return PARTED_NUMBER.test(word) ? word.replace(/[,_]/g, "") : undefined;
 }
 
+// The front of a word as it is shown, with signs in place of control bytes.
+function shownWord(word) {
+  const bytes = bytesOf(word);
+  const front = textOf(bytes.slice(0, FAULTS.shown)).replace(/[\0-\x1f\x7f]/g, (it) =>
+    `\\x${it.charCodeAt(0).toString(HEX_BASE).padStart(2, "0")}`);
+  return bytes.length > FAULTS.shown ? `${front}..` : front;
+}
+
+// A word of a line, by its number.
+function wordSays(number, word) {
+  const [before, opened, closed] = FAULTS.word;
+  return before + number + opened + shownWord(word) + closed;
+}
+
+const hexAddress = (number) => `&${number.toString(HEX_BASE).toUpperCase()}`;
+
+// What is odd about the bytes of a bad line, if anything is: its end, or else the first that no word may have.
+function oddSays(line) {
+  const bytes = bytesOf(line);
+  const isEnd = bytes.at(-1) === CARRIAGE_RETURN;
+  const byte = isEnd ? CARRIAGE_RETURN : bytes.find((it) => it < FIRST_OF_WORDS || it > LAST_OF_WORDS);
+  if (byte === undefined) return "";
+  const { says, helps } = isEnd ? FAULTS.odd.Return : byte === TAB ? FAULTS.odd.Tab : FAULTS.odd.Foreign;
+  return sentence(`this line${says.join(hexAddress(byte))}`, helps);
+}
+
 // What is wrong with a line whose first word is no command.
 function unknownFault(line, [command]) {
+  const says = sentence(wordSays(1, command) + FAULTS.unknown);
   const other = OTHER_WORDS[command.toLowerCase()] ?? nearestWord(command, COMMANDS);
-  if (!other) return { says: `${command} is no command. Help has all of them.` };
-  return { says: `${command} is no command. Is ${other} meant?`, fix: withWord(line, 0, other) };
+  if (!other) return { says: `${says} Help has all of them.` };
+  return { says: `${says} Is ${other} meant?`, fix: withWord(line, 0, other) };
 }
 
 // What is wrong with a line that has too few words, or too many.
-function countFault(line, words) {
-  const forms = formsLike(words);
-  const named = forms.slice(0, NAMED_FORMS).map(({ form }) => form).join(", or ");
-  const [form] = forms;
-  const last = form.words.length - 1;
-  const fault = { says: `${words[0]} has other words: ${named}.` };
-  if (form.words[last] !== "HEX" || words.length <= form.words.length) return fault;
+function countFault(words) {
+  const { expected, own, words: kinds } = kindOf(words);
+  const fault = { says: sentence(FAULTS.count + expected) };
+  const last = own.length + kinds.length - 1;
+  if (kinds.at(-1) !== "Bytes" || words.length <= last + 1) return fault;
   const bytes = meantBytes(words.slice(last).join(" "));
   return bytes ? { ...fault, fix: [...words.slice(0, last), bytes].join(" ") } : fault;
 }
 
 // What is wrong with one word of a line, by its place.
 function wordFault(line, words, at) {
-  const forms = formsLike(words);
-  const form = forms.find((it) => it.words.length === words.length) ?? forms[0];
-  const kind = form.words[at];
-  if (isKind(kind)) {
-    const word = meant(kind, words[at]);
-    const says = `Word ${at + 1} is ${words[at]}, and has to be ${KINDS_OF_WORDS[kind].written}.`;
-    return { says, fix: word && withWord(line, at, word) };
-  }
-  const allowed = [...new Set(forms.map((it) => it.words[at]).filter((word) => word && !isKind(word)))];
-  const word = nearestWord(words[at], allowed);
-  const says = `Word ${at + 1} is ${words[at]}, and has to be ${allowed.join(" or ")}.`;
+  const { forms, own, words: kinds } = kindOf(words);
+  const kind = kinds[at - own.length];
+  const says = sentence(wordSays(at + 1, words[at]) + FAULTS.expected + SENTENCES.words[kind]);
+  const allowed = [...new Set(forms.map((form) => form.split(" ")[at]).filter((word) => word && !isKind(word)))];
+  const word = allowed.length ? nearestWord(words[at], allowed) : meant(kind, words[at]);
   return { says, fix: word && withWord(line, at, word) };
+}
+
+// What is wrong with the words of a line, and the line that was meant, where that is clear.
+function faultOfWords(line, kind, number) {
+  const words = wordsOfLine(line);
+  if (kind === "Unknown") return unknownFault(line, words);
+  return kind === "Count" ? countFault(words) : wordFault(line, words, number - 1);
 }
 
 // What is wrong with a line that is bad, and the line that was meant, where that is clear.
 function faultOf(line, kind, number) {
-  if (kind === "TooLong") return { says: "A line has at most 1,024 bytes." };
-  if (kind === "Unended") return { says: "The last line has no line feed at its end, and doesn’t run.", fix: line };
+  const end = FAULTS.ends[kind];
+  if (end) {
+    return { says: sentence(`this line${end.says}`, end.helps), fix: kind === "Unended" ? line : undefined };
+  }
+  const odd = oddSays(line);
   const whole = mended(line);
-  if (whole !== line) return { says: "There are characters in it that part no words, as a tab does.", fix: whole };
-  const words = wordsOfLine(line);
-  if (kind === "Unknown") return unknownFault(line, words);
-  return kind === "Count" ? countFault(line, words) : wordFault(line, words, number - 1);
+  if (whole !== line) return { says: odd, fix: whole };
+  const fault = faultOfWords(line, kind, number);
+  return odd ? { ...fault, says: odd } : fault;
 }
 
 // Whether words of a reply are those that an outcome stands for: words in small letters are the same.
@@ -144,6 +183,23 @@ function pollSays([code, action, ref, , ...outcome]) {
   return `${comes} ${said.replace(/\b1 bytes\b/, "1 byte")}`;
 }
 
+// A word of a line as the desk writes it: without zeros in front.
+function plainWord(kind, word) {
+  if (kind === "ADDR") return hexAddress(parseInt(word.slice(1), HEX_BASE));
+  return /^\d+$/.test(word) ? String(Number(word)) : word;
+}
+
+// Why a command was refused, what that is about where a word of it says so, and what helps.
+function refusedSays(line, name) {
+  const { why, helps, about } = REFUSALS[name];
+  const given = wordsOfLine(line);
+  const kind = ABOUT[about];
+  const at = formOf(line)?.words.indexOf(kind) ?? -1;
+  const detail = at < 0 ? "" : SENTENCES.detail + plainWord(kind, given[at]);
+  const reason = name === "Busy" && given[0] === "save" ? BUSY_SAVE : why + detail;
+  return `${sentence(reason, helps)} Nothing was changed.`;
+}
+
 // What a form does, with the numbers of a line put in.
 function formSays({ says, words }, given) {
   const said = says.replace(/\bN\b/, (kind) => Number(given[words.indexOf(kind)]).toLocaleString("en"));
@@ -155,11 +211,8 @@ function formSays({ says, words }, given) {
 export function explained(line, reply) {
   const [outcome, ...rest] = reply.split("\n", 1)[0].split(" ");
   if (outcome === "bad") return { outcome, ...faultOf(line, rest[0], Number(rest[1])) };
+  if (outcome === "refused") return { outcome, says: refusedSays(line, rest[0]) };
   const words = wordsOfLine(line);
-  if (outcome === "refused") {
-    const why = (REFUSALS[rest[0]] ?? "").replace(/\bNAME\b/, words[1] ?? "");
-    return { outcome, says: `${why} Nothing was changed.` };
-  }
   const form = formOf(line);
   if (!form) return { outcome, says: "" };
   return { outcome, says: words[0] === "poll" ? pollSays(rest) : formSays(form, words) };

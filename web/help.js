@@ -1,10 +1,10 @@
 // The help: each form of a command with what it does and what its words are, and each refusal; what is sought alone.
 
 import { element } from "./prose.js";
-import { GROUPS, KINDS_OF_WORDS, REFUSALS, isKind } from "./words.js";
+import { GROUPS, REFUSALS_TOLD, isKind } from "./words.js";
 
-// One entry: a term in code, what it means, and its words.
-function entryOf(term, says, words = []) {
+// One entry: a term in code, what it means, its words, and what else is told of it.
+function entryOf(term, says, words = [], others = []) {
   const root = element("div");
   const name = element("dt");
   const meaning = element("dd", "", says);
@@ -14,13 +14,14 @@ function entryOf(term, says, words = []) {
     line.prepend(element("code", "", word));
     meaning.append(line);
   }
+  meaning.append(...others.map((it) => element("span", "kind", it)));
   root.append(name, meaning);
   return root;
 }
 
-function entryOfForm({ form, says, words, about }) {
-  const kinds = words.filter(isKind).map((kind) => [kind, about[kind] ?? KINDS_OF_WORDS[kind].about]);
-  return entryOf(form, says, kinds);
+function entryOfForm({ form, says, words, about, refusals }) {
+  const refused = refusals.length ? [`Refused: ${refusals.join(", ")}`] : [];
+  return entryOf(form, says, words.filter(isKind).map((kind) => [kind, about[kind]]), refused);
 }
 
 function groupOf(label, entries) {
@@ -39,7 +40,7 @@ export class Help {
   constructor(root, field, none) {
     this.#root = root;
     this.#none = none;
-    const refusals = Object.entries(REFUSALS).map(([name, says]) => entryOf(name, says));
+    const refusals = REFUSALS_TOLD.map(([name, says]) => entryOf(name, says));
     root.append(...GROUPS.map(({ label, forms }) => groupOf(label, forms.map(entryOfForm))));
     root.append(groupOf("Refusals: a command that is refused changes nothing", refusals));
     field.addEventListener("input", () => this.#seek(field.value.trim().toLowerCase()));

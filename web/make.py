@@ -7,16 +7,18 @@ import json
 import pathlib
 import re
 
+import sentences
+
 WEB = pathlib.Path(__file__).resolve().parent
 TOP = WEB.parent
 # Where a page is made, and where the one that was released stands.
 TARGET = WEB / "out/vervainfile.html"
 RELEASED = TOP / "dist/vervainfile.html"
-# The parts of the page's script, each behind those that it uses.
+# The parts of the page's script, each behind those that it uses. One of them is made, the others are files.
 SCRIPTS = ("bytes.js", "script.js", "desk.js", "instance.js", "files.js", "link.js", "kept.js", "session.js",
-           "prose.js", "words.js", "mend.js", "explain.js", "list.js", "picture.js", "memory.js", "lessons.js",
-           "story.js", "steps.js", "guess.js", "shelf.js", "live.js", "complete.js", "prompt.js", "help.js",
-           "panels.js", "notice.js", "share.js", "page.js")
+           "prose.js", sentences.PART, "words.js", "mend.js", "explain.js", "list.js", "picture.js", "memory.js",
+           "lessons.js", "story.js", "steps.js", "guess.js", "shelf.js", "live.js", "complete.js", "prompt.js",
+           "help.js", "panels.js", "notice.js", "share.js", "page.js")
 # How many bytes a page may have.
 MOST_BYTES = 400_000
 USUAL_PAGES = 64
@@ -40,11 +42,16 @@ def base64_of(content):
     return base64.b64encode(content).decode()
 
 
-def bundle(files):
+def parts(names=SCRIPTS, replaced=None):
+    """The text of each part of a page's script by its name; tests put files in place of some."""
+    files = {name: WEB / name for name in names if name != sentences.PART} | (replaced or {})
+    return {name: files[name].read_text() if name in files else sentences.part(TOP) for name in names}
+
+
+def bundle(sources):
     """One script of the parts of a page's script, by their names: their imports and exports fall away."""
     seen, text, named = set(), [], {}
-    for name, path in files.items():
-        source = path.read_text()
+    for name, source in sources.items():
         for it in NAME.findall(source):
             if named.setdefault(it, name) != name:
                 raise PageFault(f"{name} and {named[it]} both have the name {it}")
@@ -166,7 +173,7 @@ def filled(template, marks):
 
 def page_of(module, replaced=None, connects="'none'"):
     """The text of a page with a module. Tests put scripts in place of others, and let the page connect."""
-    script = bundle({name: WEB / name for name in SCRIPTS} | (replaced or {}))
+    script = bundle(parts(replaced=replaced))
     style = (WEB / "style.css").read_text()
     data = {"module": base64_of(gzip.compress(module, 9, mtime=0)), "examples": examples(), "questions": questions(),
             "pictureStyle": (WEB / "picture.css").read_text()}

@@ -11,6 +11,10 @@ MADE = f"web/out/{NAME}"
 FOLDER = "web"
 ENDINGS = (".js", ".css", ".html", ".svg", ".py")
 MAKER = "bin/web"
+# What the sentences that the page shares with `explain` and `help` are read from.
+SENTENCES = tuple(f"crates/rh_explained/{it}" for it in (
+    "specs/CommandKinds.antt", "specs/Explanations.antt", "specs/Sentences.antt", "specs/WordKinds.antt",
+    "src/shown.rt"))
 
 
 def exporter(crates):
@@ -20,7 +24,7 @@ def exporter(crates):
 
 def sources(top):
     """The paths of what the page is made of, from the top. Examples and tables of docs/ aren't among them."""
-    return sorted(f"{FOLDER}/{it}" for it in os.listdir(f"{top}/{FOLDER}") if it.endswith(ENDINGS))
+    return sorted([*(f"{FOLDER}/{it}" for it in os.listdir(f"{top}/{FOLDER}") if it.endswith(ENDINGS)), *SENTENCES])
 
 
 def make(top):

@@ -212,13 +212,12 @@ def check_explained(bench):
         same(page.text("notice"), "1 line has tabs, which part no words in a script. Mend them", "what is told of tabs")
         page.click("run")
         same(page.value(WHY),
-             ["", "", "Word 5 is hello, and has to be hexadecimal digits, two for each byte. "
-              "Make it: put a 0 0 68656c6c6f",
-              "This anchor has a block already. Take another anchor, or free that block first. Nothing was changed.",
-              "tsk is no command. Is task meant? Make it: task b 5",
-              "Word 3 is 8114, and has to be & and 1 to 8 hexadecimal digits, as &8114. Make it: release a &8114", "",
-              "There are characters in it that part no words, as a tab does. Make it: task c 5",
-              "No message waits for it."], "what is told of lines")
+             ["", "", 'Word 5 "hello": bytes are hexadecimal digits, two for each. Make it: put a 0 0 68656c6c6f',
+              "This anchor has a block already: 0 – take another anchor, or free that block first. "
+              "Nothing was changed.", 'Word 1 "tsk": no command has this name. Is task meant? Make it: task b 5',
+              'Word 3 "8114": an address is & and 1 to 8 hexadecimal digits. Make it: release a &8114', "",
+              "This line has a tab – part words by spaces. Make it: task c 5", "No message waits for it."],
+             "what is told of lines")
         for left in (3, 2, 1, 0):
             page.value("document.querySelector('#lines .fix').click()")
             same(page.value(f"{FIXES}.length"), left, "how many near misses are left")
@@ -265,25 +264,6 @@ def check_forms(bench):
             holds(len(page.value(WHY)[number - 1]) > 15, f"nothing is told of {form}")
         same(sorted(page.value("[...document.querySelectorAll('#forms dt')].map((it) => it.textContent)")),
              sorted([*forms, *refusals_of_docs()]), "what is explained")
-
-
-def check_words_of_forms(bench):
-    """A word that isn't of its kind is told by its place, with what it has to be, for each word of each form."""
-    bad = []
-    for form in forms_of_docs():
-        words = form.split()
-        for at, kind in enumerate(words):
-            if kind in OTHERS:
-                line = [SAMPLES.get(it, it) for it in words]
-                line[at] = OTHERS[kind]
-                bad.append((" ".join(line), at + 1))
-    with bench.kept_page() as page:
-        page.drop_bytes("bad.desk", "".join(f"{line}\n" for line, _ in bad).encode())
-        page.click("run")
-        same([row["reply"] for row in page.rows()], [f"bad Word {at}" for _, at in bad], "the replies")
-        for (line, at), why in zip(bad, page.value(WHY)):
-            word = line.split()[at - 1]
-            holds(why.startswith(f"Word {at} is {word}, and has to be ") and "undefined" not in why, f"{line}: {why}")
 
 
 def check_refusals_seen(bench):

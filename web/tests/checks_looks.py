@@ -194,7 +194,7 @@ def check_names(bench):
             .map((it) => it.ariaLabel)""")
         same(other, [], "which lines are told with other replies than their own, or with other reasons")
         refused = next(it for it in used if it.role == "textbox" and "refused NoName" in it.description)
-        holds("No live task is called z." in refused.description, "a refusal is told without its reason")
+        holds("No live task has this name: z" in refused.description, "a refusal is told without its reason")
         told = [Told(node) for node in nodes if not node["ignored"]]
         named = {(it.role, it.name) for it in told}
         same([(role, name) for role, names in GROUPS.items() for name in names if (role, name) not in named], [],

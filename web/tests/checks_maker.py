@@ -18,6 +18,8 @@ from bench import TOP, WEB, holds, same
 
 import make
 import module
+import page
+import sentences
 
 DATA = re.compile(r'<script type="application/json" id="data">(.*?)</script>', re.DOTALL)
 POLICY = re.compile(r'<meta http-equiv="Content-Security-Policy" content="(.*?)">')
@@ -104,21 +106,38 @@ def check_making(bench):
 
 def check_bundle(_bench):
     """The parts of a script are one script without imports and exports, each behind those that it uses."""
-    one = 'export const A = 1;\nconst text = "export ";\n'
-    two = 'import { A } from "./one.js";\n\nexport function b() {\n  return A;\n}\n'
-    with written(one_js=one, two_js=two) as folder:
-        paths = {name: folder / name for name in ("one.js", "two.js")}
-        same(make.bundle(paths), 'const A = 1;\nconst text = "export ";\n\nfunction b() {\n  return A;\n}\n',
-             "the script")
-        told = fault_of(make.PageFault, lambda: make.bundle(dict(reversed(paths.items()))))
-        same(told, "two.js stands before one.js", "what is told of parts in another order")
-        (folder / "four.js").write_text("async function b() {}\n")
-        told = fault_of(make.PageFault, lambda: make.bundle(paths | {"four.js": folder / "four.js"}))
-        same(told, "four.js and two.js both have the name b", "what is told of a name that two parts have")
-        (folder / "three.js").write_text("// nothing\n")
-        other = {name: folder / name for name in ("three.js", "two.js", "one.js")}
-        told = fault_of(make.PageFault, lambda: make.bundle(other))
-        same(told, "two.js stands before one.js", "what is told of parts behind another in another order")
+    one = {"one.js": 'export const A = 1;\nconst text = "export ";\n'}
+    two = {"two.js": 'import { A } from "./one.js";\n\nexport function b() {\n  return A;\n}\n'}
+    same(make.bundle(one | two), 'const A = 1;\nconst text = "export ";\n\nfunction b() {\n  return A;\n}\n',
+         "the script")
+    told = fault_of(make.PageFault, lambda: make.bundle(two | one))
+    same(told, "two.js stands before one.js", "what is told of parts in another order")
+    told = fault_of(make.PageFault, lambda: make.bundle(one | two | {"four.js": "async function b() {}\n"}))
+    same(told, "four.js and two.js both have the name b", "what is told of a name that two parts have")
+    told = fault_of(make.PageFault, lambda: make.bundle({"three.js": "// nothing\n"} | two | one))
+    same(told, "two.js stands before one.js", "what is told of parts behind another in another order")
+
+
+def check_sentences(_bench):
+    """The page's sentences are those of the definitions; what doesn't stand there as it is read is told."""
+    rule = 'why NoName = codes "no live task has this name"'
+    with tempfile.TemporaryDirectory() as folder:
+        top = pathlib.Path(folder)
+        for it in page.SENTENCES:
+            (top / it).parent.mkdir(parents=True, exist_ok=True)
+            shutil.copy(TOP / it, top / it)
+        same(sentences.part(top), sentences.part(TOP), "the part of another folder")
+        path = top / "crates/rh_explained/specs/Sentences.antt"
+        text = path.read_text()
+        holds(rule in text, "a rule isn't as it was")
+        path.write_text(text.replace(rule, 'why NoName =\n    codes "no \\"one\\"\\n  has it"'))
+        same(sentences.table(top)["refusals"]["NoName"]["why"], 'no "one"\n  has it', "a sentence that is reworded")
+        for other, told in (("why NoName = other NoFile", "has 0 texts at why NoName, not one"),
+                            (f"-- {rule}", "has no rule why NoName"),
+                            (f'{rule} ++ codes "."', "has 2 texts at why NoName, not one")):
+            path.write_text(text.replace(rule, other))
+            same(fault_of(sentences.NoSentence, lambda: sentences.table(top)), f"rh_explained {told}",
+                 f"what is told of {other}")
 
 
 def check_made(bench):

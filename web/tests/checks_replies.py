@@ -160,7 +160,7 @@ def check_parts(bench):
     """The parts of the page's script that need no page pass their own tests."""
     names = [it for it in make.SCRIPTS if it not in ("instance.js", "page.js")]
     tests = ("parts.js", "parts_desk.js", "parts_session.js", "parts_words.js")
-    script = make.bundle({name: WEB / name for name in names} | {name: WEB / "tests" / name for name in tests})
+    script = make.bundle(make.parts((*names, *tests), {name: WEB / "tests" / name for name in tests}))
     tab = bench.browser.open("about:blank")
     tab.value(f"(() => {{ {script} }})()")
     same(tab.value("partFaults"), [], "what is wrong with parts")

@@ -317,7 +317,9 @@ def check_help(bench):
         same(sorted(page.value(terms)), sorted([*forms_of_docs(), *refusals_of_docs()]), "the forms and the refusals")
         page.tab.type("budge")
         page.value("document.activeElement.dispatchEvent(new Event('input'))")
-        same(page.value(terms), ["budge NAME on", "budge NAME off", "NoBudge"], "what is found of budge")
+        same(page.value(terms),
+             ["claim NAME N", "resize NAME ADDR DELTA", "budge NAME on", "budge NAME off", "NoBudge"],
+             "what is found of budge: commands that NoBudge may refuse, too")
         page.value("document.activeElement.value = 'xyzzy'; document.activeElement.dispatchEvent(new Event('input'))")
         same([page.value(terms), page.seen("none-found")], [[], ["none-found"]], "what is found of nothing")
         page.tab.key("Escape")

@@ -10,7 +10,8 @@ import { mended, mendedLines, oddities } from "./mend.js";
 import { runAll, same } from "./parts.js";
 import { partsOfParagraph } from "./prose.js";
 import { tale } from "./story.js";
-import { FORMS, KINDS_OF_WORDS, OUTCOMES, REFUSALS, isKind } from "./words.js";
+import { SENTENCES } from "./sentences.js";
+import { FORMS, OF_ONE_FORM, OUTCOMES, REFUSALS, isKind } from "./words.js";
 
 // What is told of a line beside a reply, and the line that it may become.
 function toldOf(line, reply) {
@@ -48,13 +49,20 @@ const WORDS_TESTS = {
   "each form of a command is told with the words that it has"() {
     same([FORMS.length, new Set(FORMS.map(({ form }) => form)).size], [33, 33]);
     for (const { words, about, says } of FORMS) {
-      const kinds = words.filter(isKind);
-      same(Object.keys(about).filter((kind) => !kinds.includes(kind)), []);
+      same(Object.keys(about), words.filter(isKind));
+      same(Object.values(about).filter((it) => it.length < 5), []);
       const unknown = words.slice(1).filter((word) => /^[A-Z]+$/.test(word) && !isKind(word));
       same([unknown, /^[A-Z].*\.$/.test(says)], [[], true]);
     }
-    const kinds = Object.values(KINDS_OF_WORDS);
-    same(kinds.filter(({ about, written }) => about.length < 5 || written.length < 5), []);
+  },
+  "a form has a sentence of its own just where its kind has several, and else that of the program"() {
+    const all = Object.values(SENTENCES.commands);
+    const shared = all.filter(({ forms, own }) => forms.length > 1 && own[0] !== "rma").flatMap(({ forms }) => forms);
+    same(Object.keys(OF_ONE_FORM).sort(), shared.sort());
+    const others = FORMS.filter(({ form }) => !OF_ONE_FORM[form]);
+    same(others.filter(({ form, says }) => !all.some((it) => it.forms.includes(form) && it.does === says)), []);
+    const names = new Set(FORMS.flatMap(({ refusals }) => refusals));
+    same([...names].sort(), Object.keys(REFUSALS).sort());
   },
   "a command is told with its numbers put in"() {
     same(toldOf("alloc a 0 5", "ok &9008"), ["Puts a new flex block of 5 zero bytes above the others.", undefined]);
@@ -88,17 +96,31 @@ const WORDS_TESTS = {
   "each refusal is told, with the task that the command names"() {
     for (const name of Object.keys(REFUSALS)) {
       const [says, fix] = toldOf("kill zed", `refused ${name}`);
-      same([says.endsWith(" Nothing was changed."), /\bNAME\b/.test(says), fix], [true, false, undefined]);
+      same([says.endsWith(" Nothing was changed."), fix], [true, undefined]);
     }
     same(toldOf("kill zed", "refused NoName")[0],
-      "No live task is called zed. Upper and lower case differ. Nothing was changed.");
+      "No live task has this name: zed \u2013 start it by task NAME BUF; upper and lower case differ. "
+      + "Nothing was changed.");
+  },
+  "a refusal is about a word of its line, as the desk writes it"() {
+    const found = [["free a 007", "NoBlock"], ["save a 1 zed doc", "NoTask"], ["repeat a", "NoTask"],
+      ["release a &0008114", "NotABlock"], ["rma free &1800014", "NotYours"], ["area 0300 1", "NoArea"],
+      ["load a 1 logo", "NoFile"], ["claim a 9", "NoRoom"], ["put a 0 9 00", "BadRange"], ["free a 0", "Busy"],
+      ["save a 0 b doc", "Busy"]];
+    same(found.map(([line, name]) => toldOf(line, `refused ${name}`)[0].split(" \u2013 ")[0]),
+      ["This anchor has no block: 7", "The task that this is for isn\u2019t live: zed",
+        "The task that this is for isn\u2019t live", "No used block begins at this address: &8114",
+        "A message lies in this block of the module area: &1800014", "No area has this number: 300",
+        "No file has this name: logo", "The pool has too few free pages", "Offset or bytes lie outside the block",
+        "A transfer uses the block", "A transfer uses the block, or eight transfers that go out are open"]);
   },
   "a word that is no command becomes the one that was meant"() {
     const lines = ["tsk a 9", "Task a 9", "malloc a 9", "realloc a &8114 8", "clam a 9", "heaps a", "xyzzy a", "q"];
     same(lines.map((line) => fixOf(line, "bad Unknown")),
       ["task a 9", "task a 9", "claim a 9", "resize a &8114 8", "claim a 9", "heap a", undefined, undefined]);
-    same(toldOf("xyzzy a", "bad Unknown")[0], "xyzzy is no command. Help has all of them.");
-    same(toldOf("  malloc a 9", "bad Unknown"), ["malloc is no command. Is claim meant?", "  claim a 9"]);
+    same(toldOf("xyzzy a", "bad Unknown")[0], 'Word 1 "xyzzy": no command has this name. Help has all of them.');
+    same(toldOf("  malloc a 9", "bad Unknown"),
+      ['Word 1 "malloc": no command has this name. Is claim meant?', "  claim a 9"]);
   },
   "a number or an address becomes what was meant"() {
     const found = [["release a 8114", 3], ["release a 0x8114", 3], ["release a $8114", 3], ["release a 12", 3],
@@ -107,7 +129,7 @@ const WORDS_TESTS = {
     same(found.map(([line, word]) => fixOf(line, `bad Word ${word}`)),
       ["release a &8114", "release a &8114", "release a &8114", undefined, "alloc a 0 16", "alloc a 0 16",
         "alloc a 0 1000", undefined, undefined, "mid a 0 5 1000", "area 1 -4096"]);
-    same(toldOf("alloc a 64 5", "bad Word 3")[0], "Word 3 is 64, and has to be a number from 0 to 63.");
+    same(toldOf("alloc a 64 5", "bad Word 3")[0], 'Word 3 "64": an anchor is 0 to 63.');
   },
   "a text becomes its bytes, and bytes that are parted are joined"() {
     const found = [["put a 0 0 hello", "Word 5"], ["put a 0 0 'hi'", "Word 5"], ["put a 0 0 0x6869", "Word 5"],
@@ -117,15 +139,26 @@ const WORDS_TESTS = {
       ["68656c6c6f", "6869", "6869", "6869", undefined, "68696a", "68656c6c6f20776f726c64", "e282ac", undefined]);
   },
   "a word that a form has becomes that, and other words are named"() {
-    same(toldOf("budge a onn", "bad Word 3"), ["Word 3 is onn, and has to be on or off.", "budge a on"]);
-    same(toldOf("cancel a up", "bad Word 3"), ["Word 3 is up, and has to be in or out.", undefined]);
-    same(toldOf("rma clam 5", "bad Word 2"), ["Word 2 is clam, and has to be claim or free or resize.", "rma claim 5"]);
-    same(toldOf("rma", "bad Count")[0],
-      "rma has other words: rma claim N, or rma free ADDR, or rma resize ADDR DELTA.");
-    same(toldOf("task a", "bad Count")[0],
-      "task has other words: task NAME BUF, or task NAME BUF deaf, or task NAME BUF file.");
-    same(toldOf("task 1a 5", "bad Word 2")[0],
-      "Word 2 is 1a, and has to be a letter, then up to 11 letters or digits.");
+    same(toldOf("budge a onn", "bad Word 3"), ['Word 3 "onn": this word is on or off.', "budge a on"]);
+    same(toldOf("cancel a up", "bad Word 3"), ['Word 3 "up": this word is in or out.', undefined]);
+    same(toldOf("rma clam 5", "bad Word 2"), ['Word 2 "clam": this word is claim, free or resize.', "rma claim 5"]);
+    same(toldOf("rma", "bad Count")[0], "Expected rma claim N, rma free ADDR or rma resize ADDR DELTA.");
+    same(toldOf("rma free", "bad Count")[0], "Expected rma free ADDR.");
+    same(toldOf("task a", "bad Count")[0], "Expected task NAME BUF, task NAME BUF deaf or task NAME BUF file.");
+    same(toldOf("task 1a 5", "bad Word 2")[0], 'Word 2 "1a": a name is a letter, then up to 11 letters or digits.');
+    same(toldOf(`kill ${"b".repeat(17)}`, "bad Word 2")[0],
+      `Word 2 "${"b".repeat(16)}..": a name is a letter, then up to 11 letters or digits.`);
+  },
+  "bytes that no word may have are told before its words"() {
+    const helps = "words have characters from ! to ~ alone.";
+    same([toldOf("kill a\u001b", "bad Word 2"), toldOf("areas\t\u0001", "bad Unknown")[0],
+      toldOf("\u20ac", "bad Unknown")[0], toldOf("put a 0 0 \u20ac", "bad Word 5"),
+      toldOf("areas\r", "bad Unended")[0]],
+    [[`This line has the byte &1B, which no word may have \u2013 ${helps}`, undefined],
+      "This line has a tab \u2013 part words by spaces.",
+      `This line has the byte &E2, which no word may have \u2013 ${helps}`,
+      [`This line has the byte &E2, which no word may have \u2013 ${helps}`, "put a 0 0 e282ac"],
+      "This line is cut: the script ends without a line feed \u2013 end the last line with a line feed."]);
   },
   "characters that part no words become such that do"() {
     const lines = ["task\ta\t9\r", "alloc\u00a0a 0 5", "area 1 \u2212409", "\ufefftask a 9", "# a\tb\u2014c\r",

@@ -3,11 +3,17 @@
 import os
 import pathlib
 import re
+import sys
 
 TOP = pathlib.Path(__file__).resolve().parents[3]
+sys.path.insert(0, str(TOP / "web"))
+
+import sentences  # noqa: E402
+
 FORMATS = (TOP / "docs/FORMATS.md").read_text()
 SENTENCES = (TOP / "crates/rh_explained/specs/Sentences.antt").read_text()
-PAGE = (TOP / "web/words.js").read_text()
+# What the maker of the page reads of the definitions.
+TABLE = sentences.table(TOP)
 EXAMPLES = TOP / "examples"
 
 # A script's last line, and what is said of it. Before it stand the lines of BEFORE.
@@ -74,6 +80,25 @@ LINES = [
     ("area 300 1", ": no area has this number: 300", "areas lists the numbers, and make makes an area"),
 ]
 
+# Scripts whose last command is refused for what many commands bring, what is said of it, and what helps.
+TOO_MANY = [
+    ([f"task a{it} 1" for it in range(33)], ": 32 tasks are live, and there may be no more", "kill a task first"),
+    (["task a 9", "repeat a"], ": the task has sent no message yet", None),
+    (["task a 100", "task b 100 deaf", "alloc a 0 5", "save a 0 b doc", *["repeat a"] * 256],
+     ": 256 messages are live, and there may be no more", "let tasks poll"),
+    (["task a 100", "budge a off", "claim a 5000"], ": the C heap must grow for this, and budging is off",
+     "allow it by budge NAME on"),
+    (["make 1"] * 33, ": 32 areas are made, and there may be no more", "remove an area first"),
+    (["make 1", "area 256 8192"], ": the area would have more pages than it may",
+     "make an area that may have more by make MAX"),
+    ([it for k in range(256, 65536) for it in ("make 1", f"remove {k}")] + ["make 1"],
+     ": the last number of an area has been given", None),
+    (["task a 100", "task b 100 deaf", *(f"alloc a {k} 1" for k in range(9)), *(f"save a {k} b doc" for k in range(9))],
+     ": eight transfers that go out are open", "poll until the transfer has ended, or cancel it"),
+]
+# Refusals that no script brings whose length a test could have: 4,294,967,295 tasks or messages stand before them.
+FAR = {"NoHandles", "NoRefs"}
+
 
 def explained(number, line, said, helps):
     """What is written of a line."""
@@ -122,12 +147,11 @@ def test_clean_scripts(suite):
         suite.ends(f"explain {script[:16]}", ["explain", "-"], b"", b"", 0, stdin=script)
 
 
-def test_many_transfers(suite):
-    """Where eight transfers go out, the ninth is refused for that."""
-    lines = ["task a 100", "task b 100 deaf", *(f"alloc a {k} 1" for k in range(9)), *(f"save a {k} b doc" for k in range(9))]
-    wanted = explained(len(lines), lines[-1], ": eight transfers that go out are open",
-                       "poll until the transfer has ended, or cancel it").encode()
-    suite.ends("explain nine saves", ["explain", "-"], wanted, b"", 1, stdin=script_of(*lines))
+def test_too_many(suite):
+    """A command is refused for what many commands before it have brought."""
+    for lines, said, helps in TOO_MANY:
+        wanted = explained(len(lines), lines[-1], said, helps).encode()
+        suite.ends(f"explain{said}", ["explain", "-"], wanted, b"", 1, stdin=script_of(*lines))
 
 
 def words_of(script):
@@ -218,20 +242,44 @@ def test_refusals_of_examples_are_in_the_help(suite):
     os.chdir(here)
 
 
-def test_the_page_says_the_same(suite):
-    """The page's help has the sentences of the program's: what a form does, and why a command is refused."""
-    deeds = dict(re.findall(r'\["([a-z]+(?: [^"]*)?)", "([^"]*)"', PAGE))
-    said = {}
-    for command in commands_of_docs():
-        form, deed, others = help_of(suite, command)
-        said.update(re.findall(r"^  refused (\w+): (.*)$", "\n".join(others), re.MULTILINE))
-        if form in deeds:
-            suite.is_true(f"the page on {form}", deeds[form] == deed)
-    page = re.findall(r'^  (\w+): "([^"]*)",$', PAGE.partition("REFUSALS = {")[2].partition("};")[0], re.MULTILINE)
-    suite.is_true("the page has all refusals", len(page) == 24 and said.keys() == dict(page).keys())
-    for name, text in page:
-        same = text.replace("is called NAME", "has this name").replace("NAME has", "The task has").replace("’", "'")
-        suite.is_true(f"the page on {name}", same.startswith(said[name][0].upper() + said[name][1:]))
+def test_help_is_made_of_the_pages_table(suite):
+    """What the page has of each kind of command is what the program's help says of it."""
+    helps = {" ".join(it["own"]): it for it in TABLE["commands"].values()}
+    suite.is_true("the page has all commands", sorted(helps) == sorted(map(" ".join, commands_of_docs())))
+    for name, command in helps.items():
+        refused = [f"  refused {it}: {TABLE['refusals'][it]['why']}" for it in command["refusals"]]
+        words = [f"  {TABLE['words'][it]}" for it in command["words"]]
+        wanted = command["expected"], command["does"], [*words, *refused]
+        suite.is_true(f"the page on {name}", help_of(suite, name.split()) == wanted)
+    forms = [it for name, command in helps.items() if name != "rma" for it in command["forms"]]
+    suite.is_true("the page has all forms", sorted(forms) == sorted(forms_of_docs()))
+
+
+def texts_in(value):
+    """Each text in a table."""
+    if isinstance(value, str):
+        return [value]
+    parts = value.values() if isinstance(value, dict) else value if isinstance(value, list) else []
+    return [it for part in parts for it in texts_in(part)]
+
+
+def test_explanations_have_the_pages_sentences(suite):
+    """What the page has of refusals and of bad lines is what the program writes of them, and each refusal is met."""
+    written, met = suite.run(["explain", "-"], stdin=b"areas")[0].decode(), set()
+    for lines in [*([*BEFORE, line] for line, *_ in LINES), *(lines for lines, *_ in TOO_MANY)]:
+        reply, told = (suite.run([it, "-"], stdin=script_of(*lines))[0].decode() for it in ("run", "explain"))
+        written += told
+        outcome, name = reply.splitlines()[-1].split()[:2]
+        if outcome == "refused":
+            met.add(name)
+            refusal = TABLE["refusals"][name]
+            head, _, *helps = told.splitlines()
+            reason = next((it for it in (TABLE["allBusy"],) if it in head), refusal["why"])
+            suite.is_true(f"the page on {head}", head.startswith(f"line {len(lines)}: {reason}")
+                          and helps == [f"  {it}" for it in (refusal["helps"],) if it])
+    suite.is_true("each refusal is met", met | FAR == TABLE["refusals"].keys() and not met & FAR)
+    for text in texts_in(TABLE["faults"]):
+        suite.is_true(f"the program writes {text!r}", text in written)
 
 
 def test_no_such_help(suite):
