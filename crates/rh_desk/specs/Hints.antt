@@ -27,7 +27,7 @@ of_option verb w =
     else if bytes_eq w (codes "-o") || bytes_eq w (codes "--output") then Some Output
     else None
 
--- the same of the first such word; `check` takes no second file
+-- what helps at the first option that belongs elsewhere; `check` takes no second file
 abbrev pub of_options : List ℕ → List (List ℕ) → Option Hint
 of_options verb [] = if bytes_eq verb (codes "check") then Some OneFile else None
 of_options verb (w ∷ ws) = option_or (of_option verb w) (of_options verb ws)

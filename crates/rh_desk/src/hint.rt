@@ -18,11 +18,11 @@ pub enum Hint {
     CommandsOfHelp,
     /// An option stands before its command.
     OptionBehind,
-    /// An option belongs to other commands.
+    /// `--marked` belongs to other commands.
     Marked,
-    /// The same of `--slot`.
+    /// `--slot` belongs to another command.
     Slot,
-    /// The same of `--pages`.
+    /// `--pages` belongs to other commands.
     Pages,
     /// A file is named for the output.
     Output,

@@ -16,7 +16,7 @@ use Rattle.rh_explained.specs.Explanations.{bad_line, said_of_meaning}
 abbrev pub said_of_line : Desk → ℕ → List ℕ → List ℕ
 said_of_line d n line = said_of_meaning d n line (line_means line)
 
--- the same of lines, of which n stand before the first
+-- what is said of lines, of which n stand before the first
 abbrev pub said_of_lines : Desk → ℕ → List (List ℕ) → List ℕ
 said_of_lines d n [] = []
 said_of_lines d n (l ∷ ls) = said_of_line d (n + 1) l ++ said_of_lines (line_desk d l) (n + 1) ls

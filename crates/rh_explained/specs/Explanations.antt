@@ -61,7 +61,7 @@ abbrev pub word_expected : Option WordKind → List ℕ
 word_expected None = []
 word_expected (Some kind) = codes ": " ++ expected kind
 
--- the same by the kind of the command
+-- what is expected of word n of a command of that kind
 abbrev pub expected_at : Option CommandKind → ℕ → List ℕ
 expected_at None n = []
 expected_at (Some kind) n = word_expected (kind_at kind n)

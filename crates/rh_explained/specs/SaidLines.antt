@@ -16,7 +16,7 @@ pub record SaidOfMeaning {D : Type 0} (spells : D → Desk → Type 0) (s : Expl
   pub lines : t.lines ≡ s.lines + 1
   pub flag : t.has_said ≡ (s.has_said || is_said text)
 
--- the same of a line
+-- it did what a line spells, and wrote what is said of it
 abbrev pub SaidOfLine : {D : Type 0} → (D → Desk → Type 0) → Explainer D → List ℕ → Explainer D → List ℕ → Type 0
 SaidOfLine spells s line t text = SaidOfMeaning spells s line (line_means line) t text
 

@@ -7,10 +7,11 @@ use Rattle.hex.specs.Hex.{encode_lower}
 abbrev pub shown_byte : ℕ → List ℕ
 shown_byte b = if is_ascii_control b then codes "\\x" ++ encode_lower (b ∷ []) else b ∷ []
 
+-- bytes as they are shown
 abbrev pub shown : List ℕ → List ℕ
 shown bytes = flat_map shown_byte bytes
 
--- the same of so many first bytes, and two points where there are more
+-- at most so many first bytes as they are shown, and two points where there are more
 abbrev pub shown_front : ℕ → List ℕ → List ℕ
 shown_front most bytes =
     shown (take most bytes) ++ (if nat_lt most (length bytes) then codes ".." else [])

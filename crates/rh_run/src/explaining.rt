@@ -131,7 +131,7 @@ pub fn explain<R: Source, W: Sink>(
     }
 }
 
-/// The same of a script that lies in memory, over a store that nobody has used, of 8 to 1,024 pages. It takes no
+/// Explains a script that lies in memory, over a store that nobody has used, of 8 to 1,024 pages. It takes no
 /// memory, and fails only where the writer failed or took none of what it was offered.
 pub fn explanations_of<S: Store + Drop, F: NamedFiles + Drop, W: Sink>(
     store: S,
