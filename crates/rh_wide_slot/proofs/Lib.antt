@@ -1,5 +1,6 @@
 pub mod CallLaws
 pub mod Common
+pub mod CountLaws
 pub mod EditLaws
 pub mod EntryLaws
 pub mod Examples
