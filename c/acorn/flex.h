@@ -1,10 +1,13 @@
 /*
- * flex.h: the flex of RISC_OSLib, over slots of vervainfile. Compile flex.c with the program.
+ * flex.h: the flex of RISC_OSLib, over a wide slot of vervainfile. Compile flex.c with the program.
  *
  * An anchor is a `void *` of the program's. flex writes the block's address into it, and writes it again whenever the
  * block has moved: go to a block by its anchor alone. A block moves at a call of flex_free, extend, midextend or budge.
- * Other than with Acorn's, new bytes are 0; a refused call changes nothing; there are at most 4,096 blocks, and 28 MiB
- * for each 64 of them; an anchor may not lie in a flex block.
+ * Other than with Acorn's, new bytes are 0; a refused call changes nothing; there are at most 4,096 blocks; an anchor
+ * may not lie in a flex block. A block stands at a multiple of 8, and takes one to eight bytes more than it has.
+ *
+ * All of it lies in 1 GiB of addresses, or in half of that, and so on, where the system doesn't lend as many. They take
+ * memory as they are used, and keep it.
  */
 #ifndef ACORN_FLEX_H
 #define ACORN_FLEX_H
@@ -34,9 +37,9 @@ int flex_extend(flex_ptr anchor, int n);
  * 0 where there is no room or no block, or the bytes lie outside of it; else 1. */
 int flex_midextend(flex_ptr anchor, int at, int by);
 
-/* What malloc() asks where it needs more: takes `n` bytes or a few more below the first 64 blocks, which slide up for
- * that, and writes their address to `a`. They never move. Tells how many they are; 0 where there is no room, or the blocks had
- * to move while budging is off. */
+/* What malloc() asks where it needs more: takes `n` bytes, or up to seven more, below the blocks and behind those that
+ * it took before, and writes their address to `a`. They never move. Where a page is used up the blocks slide up, by
+ * whole pages. Tells how many bytes they are; 0 where there is no room, or blocks had to move while budging is off. */
 int flex_budge(int n, void **a);
 
 int flex_dont_budge(int n, void **a); /* what malloc() asks in its place where no block may ever move: always 0 */

@@ -42,7 +42,7 @@ static int paste(int page, int at)
     return 1;
 }
 
-/* Shows the texts, and how far each block is above the first page's, 8 bytes of its own header among them. */
+/* Shows the texts, and how far each block is above the first page's. */
 static void show(const char *what, int done)
 {
     printf("%-9s %s", what, done ? "done   " : "refused");
@@ -71,7 +71,7 @@ int main(void)
     show("paste", paste(1, 17));
     show("cut", cut(1, 20, 9));
 
-    /* The C heap below the blocks must grow: with budging off it may not, and then all blocks slide up by a page. */
+    /* The bytes below the blocks must become more: with budging off none may move, and then all slide up by a page. */
     first = (char *)pages[0];
     flex_set_budge(0);
     show("no budge", flex_budge(5000, &kept));
