@@ -98,6 +98,16 @@ pub any_no : (from n : ℕ) (b : List ℕ) → row_place b n < from → any_from
 unfolding any_from
 any_no from n b h = grind (arith, nat_tests)
 
+-- none of them has where each begins below
+pub none_from : (from n : ℕ) (b : List ℕ) → ((j : ℕ) → j < n → row_place b j < from) → any_from from n b ≡ false
+unfolding any_from
+none_from from zero b h = refl
+none_from from (suc n) b h =
+    ap (λ t. t || nat_le from (row_place b n)) (none_from from n b (λ j l. h j (omega arith))) ∙ below from (row_place b n) (h n (omega arith))
+  where
+    below : (x y : ℕ) → y < x → nat_le x y ≡ false
+    below x y h = grind (arith, nat_tests)
+
 -- ---- blocks by their words
 
 pub no_block : (b : List ℕ) (k : ℕ) → row_place b k ≡ 0 → row_block b k ≡ None

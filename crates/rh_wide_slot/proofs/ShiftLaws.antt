@@ -3,8 +3,9 @@ use Rattle.rh_wide_slot.proofs.Common.{◌≡◌, ◌≢◌, ℕ, ◌+◌, ◌-�
 use Rattle.rh_wide_slot.proofs.Common.{cases_lt, word, part, with_part, length-put, length-part, put_below, part_same}
 use Rattle.rh_wide_slot.proofs.Common.{IsWideSlot, row_place, row_size, end_of, slides_if, row_block, any_moved, any_from}
 use Rattle.rh_wide_slot.proofs.Common.{IsClear, Shifts, ToldBelow, moved_place, WideSlot}
-use Rattle.rh_defs.proofs.BytesLaws.{part-part, part-put_inside, word-put_below}
-use Rattle.rh_wide_slot.proofs.EntryLaws.{any_shifted, moved_at, rests_at, same_block}
+use Rattle.rh_wide_slot.proofs.Common.{cases_eq}
+use Rattle.rh_defs.proofs.BytesLaws.{part-part, part-put_inside, part_none, word-put_below}
+use Rattle.rh_wide_slot.proofs.EntryLaws.{any_shifted, moved_at, none_from, rests_at, same_block}
 
 -- the anchors' words are told first, and then the bytes move
 module _ (b m c : List ℕ) (s : WideSlot) (from to : ℕ) (table : 8 * s.anchors ≤ from) (low : 8 * s.anchors ≤ to) (high : from ≤ s.top)
@@ -49,6 +50,30 @@ module _ (b m c : List ℕ) (s : WideSlot) (from to : ℕ) (table : 8 * s.anchor
     top = refl;
     slides = ap (λ x. slides_if x s.slides) e;
   }
+
+-- where nothing lies from the place on, the top alone has moved
+pub shift_none : (b : List ℕ) (s : WideSlot) (from to : ℕ) → IsWideSlot b s → 8 * s.anchors ≤ from → from ≡ s.top → Shifts b b s
+    (record { base = s.base; top = to; anchors = s.anchors; slides = s.slides }) from to
+shift_none b s from to w table e =
+    let count = w.count.0 in
+    let below : (j : ℕ) → j < s.anchors → row_place b j < from = λ j l. elim (cases_eq (row_place b j) 0) [
+      | inl z ↦ omega arith
+      | inr d ↦ (let high = w.high j l d in omega arith)
+    ] in
+    record {
+      len = refl;
+      places = λ j l. sym (rests_at from to (row_place b j) (below j l));
+      sizes = λ j l. refl;
+      low = λ i h f t. refl;
+      parts = λ p n f h. (
+          let z : n ≡ 0 = omega arith in
+          ap (part b (to + (p - from))) z ∙ part_none b (to + (p - from)) ∙ sym (ap (part b p) z ∙ part_none b p)
+          );
+      anchors = refl;
+      base = refl;
+      top = omega arith;
+      slides = sym (ap (λ x. slides_if x s.slides) (none_from from s.anchors b below));
+    }
 
 module _ (b c : List ℕ) (s t : WideSlot) (from to : ℕ) (w : IsWideSlot b s) (clear : IsClear b s.anchors from to) (h : Shifts b c s t from to)
     (low : s.base ≤ from) (low_to : s.base ≤ to) (high : from ≤ s.top) (fit : to + (s.top - from) ≤ length b) (whole : from % 8 ≡ 0)

@@ -71,8 +71,12 @@ impl WideSlot {
         requires within { to + (self.old.top - from) ≤ length bytes.old }
         ensures { Shifts bytes.old bytes.new self.old self.new from to }
     {
-        let moved = tell_moved(bytes, *self, from, to);
         let above = self.top - from;
+        if above == 0 {
+            self.top = to;
+            return;
+        }
+        let moved = tell_moved(bytes, *self, from, to);
         slide_in(bytes, from, to, above);
         self.top = to + above;
         if moved {

@@ -1,6 +1,12 @@
-use Rattle.rh_wide_slot.proofs.Common.{refl, sym, ◌∙◌, true, false}
-use Rattle.rh_wide_slot.proofs.ShiftLaws.{shift_is}
+use Rattle.rh_wide_slot.proofs.Common.{refl, sym, ◌∙◌, true, false, arith}
+use Rattle.rh_wide_slot.proofs.ShiftLaws.{shift_is, shift_none}
 use Rattle.rh_wide_slot.proofs.slot.WideSlot.shift.Goals as goal
+
+pub returns-then-above-eq0 : goal.returns-then-above-eq0
+returns-then-above-eq0 c =
+    let none = c.if-above-eq0.true in
+    let high = c.requires.high in
+    shift_none _ _ _ _ c.requires.slot c.requires.from (omega arith)
 
 pub returns-then-moved : goal.returns-then-moved
 returns-then-moved c =
