@@ -1,7 +1,9 @@
 -- How a desk begins: calls that are refused, want of memory, and calls that are done.
 use Rattle.vf_desk.proofs.Common.{◌≡◌, ℕ, List, [], ◌∷◌, ◌++◌, length, Option, Some, None, inl, inr, refl, sym, ap, subst, ◌∙◌, ◌≢◌, ◌==◌, ◌||◌, nat_lt}
 use Rattle.vf_desk.proofs.Common.{not, is_some, if◌then◌else◌, Console, OpenDesk, console_in, is_name}
-use Rattle.vf_desk.specs.Opening.{Adds, IsFresh, Opens, Tries, file_status, opening_status}
+use Rattle.rh_defs.specs.Runs.{start_with}
+use Rattle.rh_tasks.specs.Shown.{Shown}
+use Rattle.vf_desk.specs.Opening.{Adds, IsFresh, Opens, Tries, file_status, first_console, opening_status}
 use Rattle.vf_desk.specs.SeenDesk.{files_in}
 use Rattle.vf_desk.specs.DeskStatus.{already_open, bad_argument, bad_length, file_exists, no_memory}
 use Rattle.rh_defs.specs.declared.sizes.TheConstants.{LONGEST_FILE, MAX_PAGES, MIN_PAGES}
@@ -108,3 +110,22 @@ module _ {held : Option OpenDesk} {fresh : OpenDesk} (is : IsNew held fresh) whe
           files = λ _. ap files_in put ∙ opens.files zero;
           refused = λ bad. absurd (bad refl);
         }
+
+-- ---- a desk that is opened
+
+already_open-some : already_open ≢ 0
+already_open-some e = cc
+
+closed-of : (console : Option Console) (rest : ℕ) → (if is_some console then already_open else rest) ≡ 0 → console ≡ None
+closed-of None rest zero = refl
+closed-of (Some console) rest zero = absurd (already_open-some zero)
+
+pub opens-begun : {old new : OpenDesk} {world : Shown} {pages handle ref status : ℕ} → status ≡ opening_status (Some old) pages handle ref
+    → status ≡ 0 → (old.console ≡ None → new.console ≡ Some (first_console world)) → new.files ≡ []
+    → world.desk ≡ start_with pages old.files handle ref → Opens pages handle ref (Some old) (Some new) 0
+opens-begun {world = world} is zero begun files desk = record {
+  tried = inl (sym zero ∙ is);
+  console = λ _. (first_console world, (begun (closed-of _ _ (sym is ∙ zero)), record { desk = desk; said = refl }));
+  files = λ _. files;
+  refused = λ bad. absurd (bad refl);
+}

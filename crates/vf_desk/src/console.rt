@@ -1,26 +1,38 @@
 //! A desk that takes lines.
-ghost use Rattle.std.specs.Prelude.{◌≡◌, ◌≤◌, ◌-◌, ◌^◌, [], length, min, true, Some, Ok, IfOk, OnErr};
+ghost use Rattle.std.specs.Prelude.{◌≡◌, ◌≤◌, ◌-◌, ◌^◌, length, min, true, Some, Ok, IfOk};
 ghost use Rattle.rh_defs.specs.Desk.{Desk};
+ghost use Rattle.rh_defs.specs.Memory.{fresh};
 ghost use Rattle.rh_defs.specs.Order.{IsReordered};
-ghost use Rattle.rh_defs.specs.Runs.{start_with};
 ghost use Rattle.rh_defs.specs.Range.{in_range};
 ghost use Rattle.rh_defs.specs.Script.{line_desk, line_text, meaning_desk, meaning_text};
 ghost use Rattle.rh_defs.specs.declared.sizes.TheConstants.{MAX_PAGES, MIN_PAGES};
-ghost use Rattle.vf_desk.specs.declared.said.Said.TheVariants as Said;
+ghost use Rattle.rh_pages.specs.Paged.{paged_memory};
 ghost use Rattle.vf_desk.specs.Said.{said_text};
 ghost use Rattle.vf_desk.specs.Console.{Prints};
 
 use crate::said::Said;
-use rh_defs::{Command, Files, Handle, Question, Ref};
+use rh_defs::{Command, Question};
 use rh_heap_index::IndexedStore;
 use rh_lines::{WholeText, read_line};
 use rh_pages::PagedStore;
 use rh_tasks::World;
 use std::alloc::{AllocError, Global};
-use std::mem;
 
-/// A world over scattered pages, with a map beside each heap.
-pub type PagedWorld = World<IndexedStore<PagedStore>>;
+/// Scattered pages, with a map beside each heap.
+pub type PageStore = IndexedStore<PagedStore>;
+
+/// A world over such pages.
+pub type PagedWorld = World<PageStore>;
+
+/// A fresh store of 8 to 1,024 pages: AllocError where memory is refused. No other call takes memory.
+pub fn page_store(alloc: Global, pages: u32) -> Result<PageStore, AllocError>
+    requires least { MIN_PAGES ≤ pages }
+    requires most { pages ≤ MAX_PAGES }
+    ensures { IfOk result (λ store. paged_memory store ≡ fresh pages) }
+{
+    let store = PagedStore::new(alloc, pages as usize)?;
+    IndexedStore::new(alloc, store)
+}
 
 /// A world, and what the last line was answered.
 #[derive(Drop)]
@@ -30,33 +42,6 @@ pub struct Console {
 }
 
 impl Console {
-    /// The first desk of 8 to 1,024 pages with these files, which it takes; its next handle and ref, each from 1 on.
-    /// AllocError where memory is refused, and then the files stay where they are. No other call takes memory.
-    pub fn new(
-        alloc: Global,
-        files: &mut Files,
-        pages: u32,
-        handle: Handle,
-        r: Ref,
-    ) -> Result<Console, AllocError>
-        requires least { MIN_PAGES ≤ pages }
-        requires most { pages ≤ MAX_PAGES }
-        requires handle { 1 ≤ handle }
-        requires message { 1 ≤ r }
-        ensures desk { IfOk result (λ console. console.world.desk ≡ start_with pages files.old handle r) }
-        ensures said { IfOk result (λ console. console.said ≡ Said.Nothing) }
-        ensures taken { IfOk result (λ console. files.new ≡ []) }
-        ensures err { OnErr result (files.new ≡ files.old) }
-    {
-        let store = PagedStore::new(alloc, pages as usize)?;
-        let store = IndexedStore::new(alloc, store)?;
-        let files = mem::replace(files, Files::new(alloc));
-        Ok(Console {
-            world: World::with_next(store, files, handle, r),
-            said: Said::Nothing,
-        })
-    }
-
     /// Takes a line without its line feed, and keeps what it is answered.
     pub fn take_line(&mut self, line: &[u8])
         ensures desk { (d : Desk) → IsReordered d self.old.world.desk →

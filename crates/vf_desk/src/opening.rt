@@ -1,17 +1,20 @@
 //! How a desk begins and ends.
-ghost use Rattle.std.specs.Prelude.{◌≡◌, ◌≤◌, ◌++◌, ◌∷◌, [], false, None, Some, length, IfSome, OnOk, OnErr};
+ghost use Rattle.std.specs.Prelude.{◌≡◌, ◌≢◌, ◌≤◌, ◌++◌, ◌∷◌, [], false, None, Some, length, IfSome, OnOk, OnErr};
 ghost use Rattle.rh_defs.specs.Files.{has_file};
-ghost use Rattle.vf_desk.specs.Opening.{Adds, Opens, file_status, opening_status};
+ghost use Rattle.vf_desk.specs.Opening.{Adds, Opens, file_status, first_console, opening_status};
 ghost use Rattle.rh_defs.specs.declared.sizes.TheConstants.{LONGEST_FILE};
 
-use crate::console::Console;
+use crate::console::{Console, PagedWorld, page_store};
 use crate::desk::VfDesk;
 use crate::forms::name_of;
 use crate::open_desk::OpenDesk;
+use crate::said::Said;
 use crate::status::{BAD_ARGUMENT, BAD_LENGTH, FILE_EXISTS, NO_MEMORY, OK, OPEN};
 use rh_defs::sizes::{LONGEST_FILE, MAX_PAGES, MIN_PAGES};
 use rh_defs::{Files, Handle, Name, Ref};
+use rh_tasks::World;
 use std::alloc::{AllocError, Global};
+use std::mem;
 
 /// Adds a named file, which `load` finds once the desk is open.
 #[unsafe(no_mangle)]
@@ -160,13 +163,28 @@ impl OpenDesk {
         if status != OK {
             return status;
         }
+        let Ok(store) = page_store(alloc, pages) else {
+            return NO_MEMORY;
+        };
+        let files = mem::replace(&mut self.files, Files::new(alloc));
         let (handle, r) = (Handle(first_handle), Ref(first_ref));
-        match Console::new(alloc, &mut self.files, pages, handle, r) {
-            Ok(console) => {
-                self.console = Some(console);
-                OK
-            }
-            Err(_) => NO_MEMORY,
+        self.begin(World::with_next(store, files, handle, r));
+        OK
+    }
+
+    /// Takes a world, if none is there: no line was answered yet. It is inlined, so that the world is made where it will
+    /// lie, and its 28 KB need no room on the stack.
+    #[inline(always)]
+    fn begin(&mut self, world: PagedWorld)
+        ensures first { self.old.console ≡ None → self.new.console ≡ Some (first_console world) }
+        ensures later { self.old.console ≢ None → self.new.console ≡ self.old.console }
+        ensures files { self.new.files ≡ self.old.files }
+    {
+        if self.console.is_none() {
+            self.console = Some(Console {
+                world,
+                said: Said::Nothing,
+            });
         }
     }
 }
