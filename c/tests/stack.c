@@ -2,7 +2,7 @@
  * stack.c: how much stack a call needs, on one that was filled with a byte before: less than 1 KiB on a heap or a slot,
  * less than 2 KiB on a sender, a receiver or a message, and on a desk what docs/C.md says of it. Then all calls on an
  * open desk in a row, on a stack of 24 KiB below which no byte may be touched, and a desk from its first file to its end
- * on one of 128. With sanitizers nothing is measured, since these use the stack too.
+ * on one of 64. With sanitizers nothing is measured, since these use the stack too.
  */
 #define _DEFAULT_SOURCE
 #include "expect.h"
@@ -13,8 +13,8 @@
 
 enum { ROOM = 1 << 20, STACK = 1 << 20, FILL = 0xa5, KIB = 1024, GUARD = 64 * KIB };
 enum { FEW = KIB, TRANSFER = 2 * KIB, QUESTION = 4 * KIB, COMMAND = 8 * KIB };
-enum { LISTS = 9 * KIB, LONGEST_REPLY = 11 * KIB, OPENING = 113 * KIB };
-enum { SMALL_STACK = 24 * KIB, WHOLE_STACK = 128 * KIB };
+enum { LISTS = 9 * KIB, LONGEST_REPLY = 11 * KIB, OPENING = 16 * KIB };
+enum { SMALL_STACK = 24 * KIB, WHOLE_STACK = 64 * KIB };
 
 static uint8_t memory[ROOM], bytes[8192];
 static uint64_t map[2 * ROOM / 512];

@@ -9,9 +9,7 @@ from suite import KIB, MEMORY, SCRIPT_VERBS, SMALL_STEPS
 
 NO_MEMORY = b"rh_desk: no memory\n"
 # The bytes of a small stack, and a script of few commands.
-SMALL_STACK = 160 * KIB
-# At so many of the limits at most the system has no page left for the stack, and ends the program by a signal.
-MOST_CUT = 2
+SMALL_STACK = 128 * KIB
 SHORT = b"task a 100\ntask b 10\nalloc a 0 4\nclaim a 20\nsave a 0 b leaf\npoll b\nareas\n"
 
 
@@ -57,17 +55,13 @@ def sized_runs():
 
 
 def test_each_memory(suite):
-    """In small steps from the least memory in which the program is loaded: the whole text, or want of memory. At a limit
-    or two the stack gets no page, a signal ends the program, and it has written nothing."""
+    """In small steps from the least memory in which the program is loaded: the whole text, or want of memory."""
     for words in sized_runs():
         whole = suite.run(words)
         with concurrent.futures.ThreadPoolExecutor() as pool:
             ended = list(pool.map(lambda it, words=words: suite.run(words, limit=it), SMALL_STEPS))
         loaded = [it for i, it in enumerate(ended) if any(before[2] in (0, 3) for before in ended[: i + 1])]
-        cut = [it for it in loaded if it[2] < 0]
-        ends = {it for it in loaded if it[2] >= 0}
-        suite.is_true(f"{' '.join(words)}: all or no memory", ends == {(b"", NO_MEMORY, 3), whole})
-        suite.is_true(f"{' '.join(words)}: few signals", len(cut) <= MOST_CUT and all(it[0] == b"" for it in cut))
+        suite.is_true(f"{' '.join(words)}: all or no memory", set(loaded) == {(b"", NO_MEMORY, 3), whole})
         suite.is_true(f"{' '.join(words)}: all of its text", whole[0] and whole[1:] == (b"", int(words[0] == "explain")))
 
 
