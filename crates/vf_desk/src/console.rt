@@ -17,6 +17,7 @@ use rh_lines::{WholeText, read_line};
 use rh_pages::PagedStore;
 use rh_tasks::World;
 use std::alloc::{AllocError, Global};
+use std::mem;
 
 /// Scattered pages, with a map beside each heap.
 pub type PageStore = IndexedStore<PagedStore>;
@@ -52,22 +53,22 @@ impl Console {
         let mut command = Command::Ask(Question::Areas);
         self.said = match read_line(line, &mut command) {
             Ok(false) => Said::Nothing,
-            Ok(true) => self.carry_out(command),
+            Ok(true) => self.carry_out(&mut command),
             Err(fault) => Said::Fault(fault),
         };
     }
 
-    /// Does a command, and answers what is kept of its reply. A question changes nothing, and is kept as it is.
-    fn carry_out(&mut self, command: Command) -> Said
-        requires { in_range command ≡ true }
+    /// Does a command, and answers what is kept of its reply. A question changes nothing: it is taken out, and kept.
+    fn carry_out(&mut self, command: &mut Command) -> Said
+        requires { in_range command.old ≡ true }
         ensures desk { (d : Desk) → IsReordered d self.old.world.desk →
-            IsReordered (meaning_desk d (Ok (Some command))) self.new.world.desk }
+            IsReordered (meaning_desk d (Ok (Some command.old))) self.new.world.desk }
         ensures text { (d : Desk) → IsReordered d self.old.world.desk →
-            said_text (meaning_desk d (Ok (Some command))) result ≡ meaning_text d (Ok (Some command)) }
+            said_text (meaning_desk d (Ok (Some command.old))) result ≡ meaning_text d (Ok (Some command.old)) }
     {
         match command {
-            Command::Ask(question) => Said::Told(question),
-            _ => Said::Reply(self.world.apply(&command)),
+            Command::Ask(question) => Said::Told(mem::replace(question, Question::Areas)),
+            _ => Said::Reply(self.world.apply(command)),
         }
     }
 

@@ -10,11 +10,12 @@ returns-in-Ask-clause-desk c = λ d seen.
 pub returns-in-Ask-clause-text : goal.returns-in-Ask-clause-text
 unfolding in_range
 returns-in-Ask-clause-text c = λ d seen.
-    rw c.in-Ask.is ((answers-question c.args.self.now.world.desk c.in-Ask.question (rw c.in-Ask.is at c.requires)).text d seen)
+    rw (c.in-Ask.is, c.replace.ensures.value)
+    ((answers-question c.args.self.now.world.desk c.in-Ask.question (rw c.in-Ask.is at c.requires)).text d seen)
 
 pub returns-in_default-clause-desk : goal.returns-in_default-clause-desk
 returns-in_default-clause-desk c = λ d seen. (c.apply.ensures.steps d seen).1
 
 pub returns-in_default-clause-text : goal.returns-in_default-clause-text
 returns-in_default-clause-text c =
-    (answers-command c.args.self.now.world.desk c.apply.new.self.desk c.args.command c.apply.result c.in_default.not-Ask c.apply.ensures.steps).text
+    (answers-command c.args.self.now.world.desk c.apply.new.self.desk c.args.command.now c.apply.result c.in_default.not-Ask c.apply.ensures.steps).text
