@@ -8,7 +8,7 @@ ghost use Rattle.rh_explained.specs.Explained.{Explained, ExplainedSoFar, Explai
 ghost use Rattle.rh_lines.specs.Flow.{unread};
 ghost use Rattle.rh_session.specs.declared.feeding.TheConstants.{LONGEST_SCRIPT};
 
-use crate::native::native_memory;
+use crate::native::{give_back, native_memory};
 use crate::world::ScriptWorld;
 use rh_defs::{Anchor, Files, Incoming, Name, Outgoing};
 use rh_explained::{DeskFacts, explain_script, explain_whole};
@@ -124,8 +124,10 @@ pub fn explain<R: Source, W: Sink>(
 {
     match native_memory(alloc, files, pages) {
         Ok((mut world, mut buffers)) => {
-            let world = ScriptWorld { world: &mut world };
-            explain_script(world, reader, writer, &mut buffers)
+            let desktop = ScriptWorld { world: &mut world };
+            let ended = explain_script(desktop, reader, writer, &mut buffers);
+            give_back(world, buffers);
+            ended
         }
         Err(_) => Err(RunFault::NoMemory),
     }

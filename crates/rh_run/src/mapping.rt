@@ -6,7 +6,7 @@ ghost use Rattle.rh_defs.specs.declared.sizes.TheConstants.{MAX_PAGES, MIN_PAGES
 ghost use Rattle.rh_pictures.specs.Mapped.{Mapped, MappedSoFar, MappedUntil};
 ghost use Rattle.rh_figure.specs.Map.{map_start};
 
-use crate::native::native_memory;
+use crate::native::{give_back, native_memory};
 use crate::world::ScriptWorld;
 use rh_defs::Files;
 use rh_lines::{Sink, Source};
@@ -106,8 +106,10 @@ pub fn draw_map<R: Source, W: Sink>(
 {
     match native_memory(alloc, files, pages) {
         Ok((mut world, mut buffers)) => {
-            let world = ScriptWorld { world: &mut world };
-            map_script(world, marked, reader, writer, &mut buffers)
+            let desktop = ScriptWorld { world: &mut world };
+            let ended = map_script(desktop, marked, reader, writer, &mut buffers);
+            give_back(world, buffers);
+            ended
         }
         Err(_) => Err(RunFault::NoMemory),
     }

@@ -40,6 +40,16 @@ pub fn native_memory(
 {
     let store = page_store(alloc, pages)?;
     let buffers = Box::new(alloc, Buffers::new())?;
-    let world = Box::new(alloc, World::new(store, files))?;
-    Ok((world, buffers))
+    match Box::new(alloc, World::new(store, files)) {
+        Ok(world) => Ok((world, buffers)),
+        Err(_) => Err(AllocError),
+    }
+}
+
+/// Gives back the memory of a run. Runs call it behind their end, and not each by itself, since a box that goes where it
+/// was used has its world moved to the stack of its user.
+#[inline(never)]
+pub fn give_back(world: Box<World<PageStore>>, buffers: Box<Buffers>) {
+    drop(world);
+    drop(buffers);
 }

@@ -8,7 +8,7 @@ ghost use Rattle.rh_run.specs.Safely.{RanSafely};
 ghost use Rattle.rh_session.specs.Outcome.{Answered, Finished, BrokeOff};
 ghost use Rattle.rh_defs.specs.declared.sizes.TheConstants.{MAX_PAGES, MIN_PAGES, MOST_READS};
 
-use crate::native::native_memory;
+use crate::native::{give_back, native_memory};
 use crate::world::ScriptWorld;
 use rh_defs::Files;
 use rh_lines::{Sink, Source};
@@ -121,8 +121,10 @@ pub fn run<R: Source, W: Sink>(
 {
     match native_memory(alloc, files, pages) {
         Ok((mut world, mut buffers)) => {
-            let world = ScriptWorld { world: &mut world };
-            run_script(world, reader, writer, &mut buffers)
+            let desktop = ScriptWorld { world: &mut world };
+            let ended = run_script(desktop, reader, writer, &mut buffers);
+            give_back(world, buffers);
+            ended
         }
         Err(_) => Err(RunFault::NoMemory),
     }

@@ -6,7 +6,7 @@ ghost use Rattle.rh_defs.specs.Runs.{start};
 ghost use Rattle.rh_defs.specs.declared.sizes.TheConstants.{MAX_PAGES, MIN_PAGES, MOST_READS};
 ghost use Rattle.rh_pictures.specs.Painted.{Painted, PaintedSoFar, PaintedUntil};
 
-use crate::native::native_memory;
+use crate::native::{give_back, native_memory};
 use crate::world::ScriptWorld;
 use rh_defs::Files;
 use rh_lines::{Sink, Source};
@@ -109,8 +109,10 @@ pub fn draw_sheet<R: Source, W: Sink>(
 {
     match native_memory(alloc, files, pages) {
         Ok((mut world, mut buffers)) => {
-            let world = ScriptWorld { world: &mut world };
-            paint_script(world, marked, name, reader, writer, &mut buffers)
+            let desktop = ScriptWorld { world: &mut world };
+            let ended = paint_script(desktop, marked, name, reader, writer, &mut buffers);
+            give_back(world, buffers);
+            ended
         }
         Err(_) => Err(RunFault::NoMemory),
     }

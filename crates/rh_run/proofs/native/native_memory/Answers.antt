@@ -16,7 +16,7 @@ new-requires-3-clause-most c =
     let same = pages_are _ c.args.pages c.in_ok-store.ensures in
     let most = c.requires.most in omega arith
 
-pub returns : goal.returns
-returns c =
-    ap (λ w. w.desk) c.in_ok-world.ensures.ok ∙ c.new-3.ensures
+pub returns-in-Ok : goal.returns-in-Ok
+returns-in-Ok c =
+    ap (λ w. w.desk) c.in-Ok.ensures.ok ∙ c.new-3.ensures
     ∙ ap (λ n. start n c.args.files) (pages_are _ c.args.pages c.in_ok-store.ensures)
