@@ -29,7 +29,7 @@ use Rattle.rh_desk.specs.FileWords.{AreGood, word_name}
 use Rattle.rh_desk.specs.Inputs.{IsAllOf, TellsLostInput}
 use Rattle.rh_desk.specs.Requests.{AsksFor, AsksNothing}
 use Rattle.rh_desk.specs.SheetNames.{last_part}
-use Rattle.rh_desk.specs.Telling.{Tells, TellsBadWord, TellsFolder, TellsLoss, TellsLostFile, run_fault_text}
+use Rattle.rh_desk.specs.Telling.{Tells, TellsBadWord, TellsFolder, TellsLoss, TellsLostFile, TellsMistake, run_fault_text}
 use Rattle.rh_desk.specs.declared.program_end.ProgramEnd.{ProgramEnd}
 use Rattle.rh_desk.specs.declared.program_end.ProgramEnd.TheVariants.{Clean, BadLines, WrongWords, Fault}
 use Rattle.rh_desk.specs.declared.request.ImageKind.{ImageKind}
@@ -212,16 +212,18 @@ RequestEnds remaining (Check k file) s ending =
     (file.now ≡ codes "-" → InputCheckEnds k s ending)
     × (file.now ≢ codes "-" → (s.after ≡ s.before) × CheckEnds remaining k file.now s ending)
 
--- how an error of some kind in the words ends: help and the version are written, all else is told
-abbrev pub ErrorEnds : ErrorKind → Streams → ProgramEnd → Type 0
-ErrorEnds k s Clean =
-    ((k ≡ kind.DisplayHelp) ⊎ (k ≡ kind.DisplayVersion)) × (s.new.failed ≡ s.old.failed) × (s.told ≡ s.quiet)
-ErrorEnds k s BadLines = ⊥
-ErrorEnds k s WrongWords =
+-- how an error of some kind in the words ends, by a text that `clap` has for it: as help or the version it is written, and
+-- all else is told as a mistake, with what helps
+abbrev pub ErrorEnds : ErrorKind → List (List ℕ) → Streams → ProgramEnd → Type 0
+ErrorEnds k words s Clean =
+    ((k ≡ kind.DisplayHelp) ⊎ (k ≡ kind.DisplayVersion)) × ((text : List ℕ) × Takes s.old s.new text) × (s.told ≡ s.quiet)
+ErrorEnds k words s BadLines = ⊥
+ErrorEnds k words s WrongWords =
     (k ≢ kind.DisplayHelp) × (k ≢ kind.DisplayVersion) × (k ≢ kind.OutOfMemory) × (s.new ≡ s.old)
-ErrorEnds k s Fault =
+    × TellsMistake k words s.quiet s.told
+ErrorEnds k words s Fault =
     (Tells s.quiet s.told (run_fault_text NoMemory) × (s.new ≡ s.old))
-    ⊎ (Tells s.quiet s.told (run_fault_text WriteFailed) × (s.new.failed ≡ true)
+    ⊎ (Tells s.quiet s.told (run_fault_text WriteFailed) × ((text : List ℕ) × Breaks s.old s.new text)
     × ((k ≡ kind.DisplayHelp) ⊎ (k ≡ kind.DisplayVersion)))
 
 -- how words end: as what they ask for where `clap` finds no fault in them, or as an error of a kind that it has for
@@ -230,7 +232,7 @@ abbrev pub WordsEnd : {F : Type 0} → (F → Option (List ℕ)) → List (List 
 WordsEnd remaining words s ending =
     ((fault_of program_words words ≡ [])
     × ((request : Request) × AsksFor (subcommand_of program_words words) request × RequestEnds remaining request s ending))
-    ⊎ ((s.after ≡ s.before) × ((error : Error) × HasKind (fault_of program_words words) error × ErrorEnds (kind_of error) s ending))
+    ⊎ ((s.after ≡ s.before) × ((error : Error) × HasKind (fault_of program_words words) error × ErrorEnds (kind_of error) words s ending))
     ⊎ ((fault_of program_words words ≡ []) × AsksNothing (subcommand_of program_words words)
     × (ending ≡ WrongWords) × Untouched s × (s.told ≡ s.quiet))
 

@@ -1,10 +1,13 @@
 -- What the program tells of faults.
 use Rattle.std.specs.Prelude.{◌≡◌, ◌⊎◌, ℕ, ◌==◌, false, if◌then◌else◌, List, ◌++◌, length, codes, Contains, Option}
+use Rattle.clap.specs.declared.error.kind.ErrorKind.{ErrorKind}
+use Rattle.rh_defs.specs.Line.{nth_word}
 use Rattle.rh_explained.specs.ShownBytes.{shown}
 use Rattle.rh_lines.specs.Flow.{Output, Takes}
 use Rattle.rh_session.specs.declared.status.RunFault.{RunFault}
 use Rattle.rh_session.specs.declared.status.RunFault.TheVariants.{NoMemory, ReadFailed, WriteFailed, TooLong}
 use Rattle.rh_desk.specs.FileWords.{IsFirstBad, word_path}
+use Rattle.rh_desk.specs.Hints.{hint_of, mistake_text}
 use Rattle.rh_desk.specs.Reasons.{MayBeLost, loss_text, word_fault, word_fault_text}
 use Rattle.rh_desk.specs.declared.program_end.ProgramEnd.{ProgramEnd}
 use Rattle.rh_desk.specs.declared.program_end.ProgramEnd.TheVariants.{WrongWords, Fault}
@@ -53,6 +56,11 @@ TellsLostFile remaining old new words ending =
 -- the first bad word was told, or a lost file
 abbrev pub TellsBadFile : {F : Type 0} → (F → Option (List ℕ)) → Output → Output → List (List ℕ) → ProgramEnd → Type 0
 TellsBadFile remaining old new words ending = TellsBadWord old new words ending ⊎ TellsLostFile remaining old new words ending
+
+-- of a mistake of some kind in the words some text was told, each line of it shown, and below the first line what helps
+abbrev pub TellsMistake : ErrorKind → List (List ℕ) → Output → Output → Type 0
+TellsMistake k words old new =
+    (text : List ℕ) × Tells old new (mistake_text (hint_of k words) (nth_word words 2) text)
 
 -- nothing more was told, or that a script which can't be read is a folder
 abbrev pub TellsFolder : Output → Output → ProgramEnd → Type 0

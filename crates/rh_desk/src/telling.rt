@@ -1,11 +1,13 @@
 //! What the program tells of faults.
 
-ghost use Rattle.std.specs.Prelude.{◌≡◌, ◌≢◌, ◌⊎◌, ◌≤◌, ◌++◌, codes, true};
+ghost use Rattle.std.specs.Prelude.{◌≡◌, ◌≢◌, ◌⊎◌, ◌≤◌, ◌++◌, ℕ, List, codes, map, string_bytes};
 ghost use Rattle.clap.specs.Values.{kind_of};
 ghost use Rattle.rh_desk.specs.Hints.{mistake_text};
 ghost use Rattle.rh_desk.specs.ProgramEnd.{ending_of, exit_status};
 ghost use Rattle.rh_desk.specs.Reasons.{loss_text};
-ghost use Rattle.rh_desk.specs.Telling.{Tells, TellsFolder, bad_word_text, lost_file_text, run_fault_text, shown_path};
+ghost use Rattle.rh_desk.specs.Telling.{Tells, TellsMistake, bad_word_text, lost_file_text, run_fault_text};
+ghost use Rattle.rh_desk.specs.Telling.{shown_path};
+ghost use Rattle.rh_lines.specs.Flow.{Breaks, Takes};
 
 use crate::asked::word;
 use crate::hint::Hint;
@@ -64,8 +66,12 @@ pub fn tell_words_error<O: Sink, E: Sink>(
     ensures memory { kind_of error.now ≡ ErrorKind.OutOfMemory → result ≡ ProgramEnd.Fault }
     ensures shown { result ≡ ProgramEnd.Clean → (kind_of error.now ≡ ErrorKind.DisplayHelp)
         ⊎ (kind_of error.now ≡ ErrorKind.DisplayVersion) }
+    ensures written { result ≡ ProgramEnd.Clean → (text : List ℕ) × Takes (O.output output.old) (O.output output.new)
+        text }
     ensures mistake { result ≡ ProgramEnd.WrongWords → (kind_of error.now ≢ ErrorKind.DisplayHelp)
         × (kind_of error.now ≢ ErrorKind.DisplayVersion) }
+    ensures told { result ≡ ProgramEnd.WrongWords → TellsMistake (kind_of error.now) (map string_bytes words.now)
+        (E.output errors.old) (E.output errors.new) }
     ensures well { exit_status result ≤ 1 → (O.output output.new).failed ≡ (O.output output.old).failed }
     ensures wrong { result ≡ ProgramEnd.WrongWords → O.output output.new ≡ O.output output.old }
     ensures quiet { result ≡ ProgramEnd.Clean → E.output errors.new ≡ E.output errors.old }
@@ -73,7 +79,7 @@ pub fn tell_words_error<O: Sink, E: Sink>(
         (Tells (E.output errors.old) (E.output errors.new) (run_fault_text RunFault.NoMemory)
         × (O.output output.new ≡ O.output output.old))
         ⊎ (Tells (E.output errors.old) (E.output errors.new) (run_fault_text RunFault.WriteFailed)
-        × ((O.output output.new).failed ≡ true)
+        × ((text : List ℕ) × Breaks (O.output output.old) (O.output output.new) text)
         × ((kind_of error.now ≡ ErrorKind.DisplayHelp) ⊎ (kind_of error.now ≡ ErrorKind.DisplayVersion))) }
 {
     let text = match error.to_string(alloc) {

@@ -10,4 +10,4 @@ returns-in_default-clause-fault g c = λ fault. inl (c.ended.ensures.told NoMemo
 pub returns-clause-fault : goal.returns-clause-fault
 returns-clause-fault g c = λ fault.
     let shown : (kind_of c.args.error.now ≡ kind.DisplayHelp) ⊎ (kind_of c.args.error.now ≡ kind.DisplayVersion) = search rules in
-    inr (c.ended-in-Err.ensures.told WriteFailed refl, c.in-Err.ensures.err.failed, shown)
+    inr (c.ended-in-Err.ensures.told WriteFailed refl, (_, c.in-Err.ensures.err), shown)
