@@ -168,10 +168,10 @@ Usage: vervainfile run [--pages N] SCRIPT [NAME=PATH ...]
 
 Commands:
   run      Run a script and print its replies
-  explain  Run a script and say of each bad line and each refused command what was wrong
+  explain  Run a script and say what was wrong with bad and refused lines
   map      Run a script and print a map of memory after each step
-  draw     Run a script and print a page of HTML with a figure of memory after each step
-  check    Say whether the bytes of a file are a heap or a slot, and what it consists of
+  draw     Run a script and print memory after each step as a page of HTML
+  check    Say whether a file's bytes are a heap or a slot, and what it has
   help     Print this message or the help of the given subcommand(s)
 
 Options:

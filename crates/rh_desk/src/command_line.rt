@@ -28,13 +28,11 @@ vervainfile run [--pages N] SCRIPT [NAME=PATH ...]
 /// What the subcommands for scripts do.
 const ABOUT_RUN: &str = "Run a script and print its replies";
 
-const ABOUT_EXPLAIN: &str =
-    "Run a script and say of each bad line and each refused command what was wrong";
+const ABOUT_EXPLAIN: &str = "Run a script and say what was wrong with bad and refused lines";
 
 const ABOUT_MAP: &str = "Run a script and print a map of memory after each step";
 
-const ABOUT_DRAW: &str =
-    "Run a script and print a page of HTML with a figure of memory after each step";
+const ABOUT_DRAW: &str = "Run a script and print memory after each step as a page of HTML";
 
 /// What stands under the help.
 const MORE: &str = "\
@@ -213,7 +211,7 @@ fn checking<'a>(alloc: Global) -> Result<Command<'a>, AllocError>
         .required(true)
         .action(ArgAction::Set);
     Command::new(alloc, "check")
-        .about("Say whether the bytes of a file are a heap or a slot, and what it consists of")
+        .about("Say whether a file's bytes are a heap or a slot, and what it has")
         .after_help(MORE)
         .arg(slot)?
         .arg(file)

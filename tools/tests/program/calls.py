@@ -36,12 +36,11 @@ MARKED = b"Show marked steps alone: a line #picture marks the next"
 HELP = [
     (["--help"], USAGE),
     (["run", "--help"], [b"Run a script and print its replies", PAGES, SCRIPT, FILES]),
-    (["explain", "--help"], [b"Run a script and say of each bad line and each refused command what was wrong", PAGES, SCRIPT,
-                             FILES]),
+    (["explain", "--help"], [b"Run a script and say what was wrong with bad and refused lines", PAGES, SCRIPT, FILES]),
     (["check", "--help"], [b"The bytes, 1048576 at most; - for standard input", b"Take the bytes for a slot, not for a heap"]),
     (["map", "--help"], [b"Run a script and print a map of memory after each step", PAGES, MARKED, SCRIPT, FILES]),
-    (["draw", "--help"], [b"Run a script and print a page of HTML with a figure of memory after each step", PAGES,
-                          MARKED, SCRIPT, FILES]),
+    (["draw", "--help"], [b"Run a script and print memory after each step as a page of HTML", PAGES, MARKED, SCRIPT,
+                          FILES]),
 ]
 # Numbers of pages, and how many are free where nothing has begun.
 NUMBERS = [("8", 7), ("64", 63), ("100", 99), ("129", 128), ("256", 255), ("1024", 1023)]
@@ -75,6 +74,7 @@ def test_help_is_no_mistake(suite):
         for text in [b"With no words at all the script on standard input is run",
                      b"vervainfile run --pages 8 hello.desk", b"Exit status:"]:
             suite.is_true(f"{words}: {text}", text in output)
+        suite.is_true(f"{words}: width", max(map(len, output.splitlines())) <= 79)
 
 
 def test_help_says_what_each_word_is(suite):
