@@ -46,8 +46,8 @@ pub fn native_memory(
     }
 }
 
-/// Gives back the memory of a run. Runs call it behind their end, and not each by itself, since a box that goes where it
-/// was used has its world moved to the stack of its user.
+/// Gives back the memory of a run. Each run calls this behind its end: a box that goes where it was used has its world
+/// moved to the stack of its user.
 #[inline(never)]
 pub fn give_back(world: Box<World<PageStore>>, buffers: Box<Buffers>) {
     drop(world);

@@ -3,7 +3,8 @@ use Rattle.vf_desk.proofs.Common.{◌≡◌, ℕ, List, [], ◌∷◌, ◌++◌,
 use Rattle.vf_desk.proofs.Common.{not, is_some, if◌then◌else◌, Console, OpenDesk, console_in, is_name}
 use Rattle.rh_defs.specs.Runs.{start_with}
 use Rattle.rh_tasks.specs.Shown.{Shown}
-use Rattle.vf_desk.specs.Opening.{Adds, IsFresh, Opens, Tries, file_status, first_console, opening_status}
+use Rattle.vf_desk.specs.Inner.FirstConsole.{first_console}
+use Rattle.vf_desk.specs.Opening.{Adds, IsFresh, Opens, Tries, file_status, opening_status}
 use Rattle.vf_desk.specs.SeenDesk.{files_in}
 use Rattle.vf_desk.specs.DeskStatus.{already_open, bad_argument, bad_length, file_exists, no_memory}
 use Rattle.rh_defs.specs.declared.sizes.TheConstants.{LONGEST_FILE, MAX_PAGES, MIN_PAGES}

@@ -2,3 +2,4 @@
 pub mod BlockSteps
 pub mod DeskLists
 pub mod DeskSteps
+pub mod FirstConsole

@@ -4,7 +4,6 @@ use Rattle.rh_defs.specs.Files.{FileList, has_file}
 use Rattle.rh_defs.specs.Forms.{is_name}
 use Rattle.rh_defs.specs.Runs.{start_with}
 use Rattle.rh_defs.specs.declared.sizes.TheConstants.{MAX_PAGES, MIN_PAGES, LONGEST_FILE}
-use Rattle.rh_tasks.specs.Shown.{Shown}
 use Rattle.vf_desk.specs.declared.console.Console.{Console}
 use Rattle.vf_desk.specs.declared.said.Said.TheVariants as said
 use Rattle.vf_desk.specs.declared.open_desk.OpenDesk.{OpenDesk}
@@ -37,10 +36,6 @@ pub record Adds (name bytes : List ℕ) (old new : Option OpenDesk) (status : �
   pub files : status ≡ 0 → files_in new ≡ files_in old ++ (name, bytes) ∷ []
   pub closed : status ≡ 0 → console_in new ≡ None
   pub refused : status ≢ 0 → new ≡ old
-
--- a world that answered no line yet
-abbrev pub first_console : Shown → Console
-first_console world = record { world = world; said = said.Nothing }
 
 -- a desk that was just opened: no line was answered yet
 pub record IsFresh (pages : ℕ) (files : FileList) (handle ref : ℕ) (console : Console) : Type 0 where

@@ -1,7 +1,8 @@
 //! How a desk begins and ends.
 ghost use Rattle.std.specs.Prelude.{◌≡◌, ◌≢◌, ◌≤◌, ◌++◌, ◌∷◌, [], false, None, Some, length, IfSome, OnOk, OnErr};
 ghost use Rattle.rh_defs.specs.Files.{has_file};
-ghost use Rattle.vf_desk.specs.Opening.{Adds, Opens, file_status, first_console, opening_status};
+ghost use Rattle.vf_desk.specs.Inner.FirstConsole.{first_console};
+ghost use Rattle.vf_desk.specs.Opening.{Adds, Opens, file_status, opening_status};
 ghost use Rattle.rh_defs.specs.declared.sizes.TheConstants.{LONGEST_FILE};
 
 use crate::console::{Console, PagedWorld, page_store};
@@ -172,8 +173,8 @@ impl OpenDesk {
         OK
     }
 
-    /// Takes a world, if none is there: no line was answered yet. It is inlined, so that the world is made where it will
-    /// lie, and its 28 KB need no room on the stack.
+    /// Takes a world, if none is there: no line was answered yet. It is inlined: the world is made where it will lie,
+    /// and its 28 KB need no room on the stack.
     #[inline(always)]
     fn begin(&mut self, world: PagedWorld)
         ensures first { self.old.console ≡ None → self.new.console ≡ Some (first_console world) }
