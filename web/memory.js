@@ -3,7 +3,7 @@
 import { shownText } from "./bytes.js";
 import { Refusal } from "./desk.js";
 import { Picture, lastStepOf } from "./picture.js";
-import { outcomeOf } from "./script.js";
+import { commandBefore, outcomeOf } from "./script.js";
 
 const NO_LINES = "Nothing has run yet. Type a command at the prompt, or load an example.";
 const NOTHING = "Nothing has run yet. Step runs the next command, Run all runs every line.";
@@ -38,6 +38,8 @@ export class Memory {
   // Whether the script sends messages, and the replies by which that is known.
   #sends = false;
   #replies;
+  // The step whose picture was shown last: the lines and the pages of its script, and the place of its command.
+  #pictured = { command: -1 };
   // What the last command has changed, in words.
   changes = [];
 
@@ -96,10 +98,23 @@ export class Memory {
       return "";
     }
     const { style, memory, messages, legend, changes } = lastStepOf(this.#session.drawn("vf_draw", false));
-    this.#picture.show(style, memory, legend);
+    this.#picture.show(style, memory, legend, this.#isBesidePictured());
+    const { command, state: { lines, pages } } = this.#session;
+    this.#pictured = { command, lines, pages };
     this.#showMessages(messages, style);
     this.changes = changes;
     return "";
+  }
+
+  // Whether the step is the one before the step that was shown last, or the one behind it: of the same script, or of
+  // one that has the same lines up to there.
+  #isBesidePictured() {
+    const { command: old, lines, pages } = this.#pictured;
+    const { command, replies, state } = this.#session;
+    const [first, last] = [Math.min(old, command), Math.max(old, command)];
+    if (first < 0 || commandBefore(replies, last) !== first || pages !== state.pages) return false;
+    if (lines === state.lines) return true;
+    return first === old && lines.slice(0, first + 1).every((line, at) => line === state.lines[at]);
   }
 
   // Messages have their place from the first step on where the script sends some.

@@ -1,6 +1,7 @@
 // Pictures of memory and of messages: the last figure of a sheet, each in a tree of its own, with the sheet's style.
 
 import { shownText } from "./bytes.js";
+import { moveParts, partsIn } from "./movement.js";
 
 // The style of a sheet; a browser would refuse one that it finds in a page.
 const STYLE = /<style>([^]*?)<\/style>/;
@@ -58,14 +59,17 @@ export class Picture {
     this.#tree.append(this.#figure);
   }
 
-  // Shows parts of a sheet, and what is said of how they are read, with the sheet's style.
-  show(style, parts, legend) {
+  // Shows parts of a sheet, and what is said of how they are read, with the sheet's style. Where they are of the step
+  // beside the one that was shown, blocks move.
+  show(style, parts, legend, isBeside = false) {
     if (style !== this.#styleText) this.#restyle(style, legend);
+    const before = isBeside ? partsIn(this.#figure) : undefined;
     const scrolled = [...this.#figure.querySelectorAll(".wide")].map((frame) => frame.scrollLeft);
     this.#figure.replaceChildren(...copies(parts));
     unlink(this.#tree);
     const memory = this.#figure.querySelector(".memory");
     if (memory) this.#frame(memory, scrolled);
+    if (before) moveParts(this.#figure, before);
   }
 
   // Shows nothing any more.

@@ -245,6 +245,53 @@ def check_windows_line_ends(bench):
         same(page.saved("a.desk"), script, "the script when that is taken back")
 
 
+# Clicks on something, and gives what moves then: of each its title, its words or its class, and from where to where.
+MOVING = """((act) => {
+  act();
+  const ofFrame = ({ x, y, width, transform, opacity }) => [x, y, width, transform, opacity].filter(Boolean).join(' ');
+  return %s.getAnimations().map(({ effect }) => [
+    effect.target.querySelector('title')?.textContent ?? (effect.target.textContent || effect.target.className.baseVal),
+    ...effect.getKeyframes().map(ofFrame)]);
+})(() => document.querySelector('%s').click())"""
+LINE = "#lines > li:nth-child(%s) .number"
+
+
+def check_movement(bench):
+    """Between neighbouring steps blocks go from place to place; not over several steps, nor where that isn't wanted."""
+    tree = "document.querySelector('#picture').shadowRoot"
+    picture = f"{tree}.querySelector('.memory').innerHTML"
+
+    def moving(selector):
+        return page.value(MOVING % (tree, selector))
+
+    with bench.kept_page() as page:
+        page.load("lessons/sliding")
+        same(moving(LINE % 3), [], "what moves where nothing was seen before")
+        # A row of 4,096 bytes is 1,024 units wide, from 150 on. A block of 100 bytes with its header of 8 has 27.
+        same(moving("#step"), [["flex block 1, &9074, 100 bytes", "0", "1"], ["1", "0", "1"]], "what comes in")
+        page.click("step")
+        still = page.value(picture)
+        slides = [["flex block 0, &9008, 200 bytes", "150px 85px 27px", "150px 85px 52px"],
+                  ["0", "translate(-12.5px, 0px)", "none"],
+                  ["flex block 1, &90D8, 100 bytes", "177px 85px 27px", "202px 85px 27px"],
+                  ["1", "translate(-25px, 0px)", "none"]]
+        arrows = [[it, "0", "1"] for it in ("casing", "ghost", "casing", "slide")]
+        same(moving("#step"), slides + arrows, "what moves as block 0 gets longer")
+        page.tab.wait(lambda: page.value(f"{tree}.getAnimations().length") == 0, "it moves on and on")
+        same([it[:2] for it in moving("#back")][0::2], [[slides[0][0].replace("200", "100"), slides[0][2]],
+             ["flex block 1, &9074, 100 bytes", slides[2][2]]], "what moves on the way back")
+        same(page.value(picture), still, "the picture")
+        same(moving(LINE % 12), [], "what moves over several steps")
+        # The heap has a page more, and the row in which both blocks were is the middle one of three now.
+        budged = [it for it in moving("#step") if it[0].startswith("flex")]
+        same(budged, [["flex block 0, &A008, 100 bytes", "150px 115px 27px", "150px 85px 27px"],
+                      ["flex block 1, &A074, 100 bytes", "177px 115px 27px", "177px 85px 27px"]], "what budges")
+        page.enter("alloc a 2 5")
+        page.tab.call("Emulation.setEmulatedMedia", features=[{"name": "prefers-reduced-motion", "value": "reduce"}])
+        same([moving("#back"), moving("#step")], [[], []], "what moves where less motion is asked for")
+        page.tab.call("Emulation.setEmulatedMedia", features=[])
+
+
 def sampled(form):
     """A line of a form, with samples for its words."""
     return " ".join(SAMPLES.get(word, word) for word in form.split())

@@ -1,0 +1,62 @@
+// Movement between the pictures of two neighbouring steps: a block that both have goes from its old place to the new
+// one, and one that is new comes in. The picture is the module's at once: only how it is shown changes by degrees.
+
+const MOTION = { duration: 420, easing: "cubic-bezier(.3, 0, .2, 1)" };
+// Arrows of slides are seen once all blocks have their places.
+const ARROWS = ".casing, .ghost, .slide";
+const LATE = { duration: 150, delay: MOTION.duration, fill: "backwards" };
+const UNSEEN = [{ opacity: 0 }, { opacity: 1 }];
+// What moves, by the beginning of its title.
+const MOVABLE = /^(?:flex block \d+|message \d+|(?:used|hole) &[0-9A-F]+)/;
+const LESS_MOTION = matchMedia("(prefers-reduced-motion: reduce)");
+
+const numberOf = (element, name) => Number(element.getAttribute(name));
+const inUnits = (place) => Object.fromEntries(Object.entries(place).map(([name, value]) => [name, `${value}px`]));
+
+// Adds the parts of one slot, or of the module area, that may move: each by its owner, its name and, where it stands in
+// several rows, a number. A row is known by its address, as it stands elsewhere where a slot has more pages.
+function addParts(parts, svg) {
+  const owner = svg.querySelector("title").textContent;
+  const rows = new Map();
+  let address = "";
+  for (const element of svg.children) {
+    if (element.matches(".addr")) address = element.textContent;
+    if (element.matches(".row")) rows.set(address, numberOf(element, "y"));
+    const [name] = MOVABLE.exec(element.querySelector("title")?.textContent ?? "") ?? [];
+    if (!name) continue;
+    let piece = 0;
+    while (parts.has(`${owner}, ${name}, ${piece}`)) piece++;
+    const place = { x: numberOf(element, "x"), y: numberOf(element, "y"), width: numberOf(element, "width") };
+    const label = element.nextElementSibling?.matches(".lab") ? element.nextElementSibling : undefined;
+    parts.set(`${owner}, ${name}, ${piece}`, { element, label, address, rows, place });
+  }
+}
+
+// The parts of a picture of memory that may move.
+export function partsIn(figure) {
+  const parts = new Map();
+  for (const svg of figure.querySelectorAll(".memory svg")) addParts(parts, svg);
+  return parts;
+}
+
+// Moves a part from the place that it had, as far as the row is still drawn in which that was.
+function move({ element, label, rows, place }, before) {
+  const y = rows.get(before.address);
+  if (y === undefined) return;
+  const old = { ...before.place, y };
+  if (["x", "y", "width"].every((name) => old[name] === place[name])) return;
+  element.animate([inUnits(old), inUnits(place)], MOTION);
+  const right = old.x + old.width / 2 - place.x - place.width / 2;
+  label?.animate([{ transform: `translate(${right}px, ${y - place.y}px)` }, { transform: "none" }], MOTION);
+}
+
+// Moves the parts of a picture from where those of another one were, unless less motion is asked for.
+export function moveParts(figure, before) {
+  if (LESS_MOTION.matches) return;
+  for (const [key, part] of partsIn(figure)) {
+    const old = before.get(key);
+    if (old) move(part, old);
+    else [part.element, part.label].forEach((it) => it?.animate(UNSEEN, MOTION));
+  }
+  for (const arrow of figure.querySelectorAll(ARROWS)) arrow.animate(UNSEEN, LATE);
+}
