@@ -3,11 +3,16 @@
 import { shownText } from "./bytes.js";
 import { Refusal } from "./desk.js";
 import { Picture, lastStepOf } from "./picture.js";
+import { element } from "./prose.js";
 import { commandBefore, outcomeOf } from "./script.js";
 
 const NO_LINES = "Nothing has run yet. Type a command at the prompt, or load an example.";
 const NOTHING = "Nothing has run yet. Step runs the next command, Run all runs every line.";
 const NO_COMMAND = "No command has run yet: the lines that have run are remarks, or empty.";
+// What is told of a question, and of a command that is refused or bad.
+const ASKS = /^ *(?:areas|show|blocks|heap|status)(?: |$)/;
+const STAYS = "Memory stays as it is.";
+const ASKED = "A question: memory stays as it is.";
 // A command by which a script sends messages.
 const SENDS = /^ *save /;
 const NO_DRAWING = "The module of this page draws no pictures.";
@@ -16,6 +21,12 @@ const NO_DRAWING = "The module of this page draws no pictures.";
 function whyNoStep({ lines, position }) {
   if (position > 0) return NO_COMMAND;
   return lines.length ? NOTHING : NO_LINES;
+}
+
+// Why no change is told of a line with its reply: an empty text where that isn't known.
+function stillness(line, reply) {
+  if (outcomeOf(reply) !== "ok") return STAYS;
+  return ASKS.test(line) ? ASKED : "";
 }
 
 // A line of the step that is shown: its number, its command and its reply.
@@ -40,8 +51,9 @@ export class Memory {
   #replies;
   // The step whose picture was shown last: the lines and the pages of its script, and the place of its command.
   #pictured = { command: -1 };
-  // What the last command has changed, in words.
+  // What the last command has changed, in words; and that it changes nothing, where that is known.
   changes = [];
+  #still = "";
 
   // Of the session and the elements in which it stands, and the style that is added to a sheet's own.
   constructor(session, parts, addedStyle) {
@@ -67,6 +79,7 @@ export class Memory {
   // Shows memory as it is after the last command.
   show() {
     this.changes = [];
+    this.#still = "";
     const isEmpty = this.#session.state.lines.length === 0;
     this.#parts.empty.hidden = !isEmpty;
     this.#makeRoomForMessages();
@@ -103,6 +116,7 @@ export class Memory {
     this.#pictured = { command, lines, pages };
     this.#showMessages(messages, style);
     this.changes = changes;
+    this.#still = stillness(lines[command], this.#session.replies[command]);
     return "";
   }
 
@@ -143,12 +157,12 @@ export class Memory {
     if (!messages.hidden) messages.scrollTop = messages.scrollHeight;
   }
 
+  // Tells what the last command has changed, or that it changes nothing.
   #tellChanges() {
-    this.#parts.changes.replaceChildren(...this.changes.map((change) => {
-      const item = document.createElement("li");
-      item.textContent = change;
-      return item;
-    }));
-    this.#parts.changes.hidden = this.changes.length === 0;
+    const { changes } = this.#parts;
+    const isStill = this.changes.length === 0;
+    changes.replaceChildren(...(isStill ? [this.#still] : this.changes).map((told) => element("li", "", told)));
+    changes.classList.toggle("still", isStill);
+    changes.hidden = isStill && !this.#still;
   }
 }

@@ -231,6 +231,22 @@ def check_explained(bench):
         same(page.saved("cut.desk"), b"areas\n", "the script whose last line was ended")
 
 
+def check_stillness(bench):
+    """Of a question, and of a command that is refused or bad, it is told that memory stays; of no other one."""
+    script = (b"task a 9\nareas\nclaim a 20\nheap a\nblocks a\nstatus a\nalloc a 0 5\nshow a 0\npoll a\nrelease a &9\n"
+              b"heaps a\n")
+    asked, stays = "A question: memory stays as it is.", "Memory stays as it is."
+    wanted = [None, asked, "", asked, asked, asked, None, asked, "", stays, stays]
+    with bench.kept_page() as page:
+        page.drop_bytes("a.desk", script)
+        for number, told in enumerate(wanted, 1):
+            page.click("step")
+            found = page.text("changes")
+            same(found if told is not None else bool(found), told if told is not None else True, f"what {number} tells")
+        page.value("document.querySelector('[value=map]').click()")
+        same(page.seen("changes"), [], "what is told beside a map")
+
+
 def check_windows_line_ends(bench):
     """A script of Windows is opened as it is; one button ends all lines by a line feed, and Undo takes that back."""
     script = b"\xef\xbb\xbftask a 9\r\n# b\r\nareas\r\n"
