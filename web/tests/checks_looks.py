@@ -130,6 +130,36 @@ def check_contrast(bench):
             same(page.script("contrasts.js", LEAST_CONTRAST), [], f"texts of little contrast, {light}")
 
 
+# The size of the smallest word of the picture, in units of the window; and words that are wider than their places: tags
+# than a square of the pool, labels than their piece, and what stands before the pool than the room there.
+WORDS_OF_FIGURES = """(() => {
+  const words = (kind) => [...document.querySelector('#picture').shadowRoot.querySelectorAll(`.memory svg ${kind}`)];
+  const size = (it) => parseFloat(getComputedStyle(it).fontSize) * it.getScreenCTM().a;
+  const place = (it) => it.localName === 'rect' ? Number(it.getAttribute('width')) : place(it.previousElementSibling);
+  const isWider = (width) => (it) => it.getBBox().width > width(it);
+  const wide = [...words('.tag').filter(isWider(() => 32)), ...words('.lab').filter(isWider(place)),
+    ...words('.small').filter(isWider(() => 150.5))];
+  return [Math.min(...words('text').map(size)), wide.map((it) => it.textContent)];
+})()"""
+# The least size of a word in a picture.
+LEAST_WORD = 11
+
+
+def check_words_of_figures(bench):
+    """In a window of a classroom's screen and of a phone no word of a picture is too small, or wider than its place."""
+    with bench.kept_page() as page:
+        for width, height in ((1280, 720), (390, 844)):
+            page.tab.resize(width, height)
+            for name in ("transfer", "pages", "made-areas", "lessons/holes"):
+                page.load(name)
+                page.click("run")
+                for pages in (64, 1024):
+                    page.set_pages(pages)
+                    least, wide = page.value(WORDS_OF_FIGURES)
+                    holds(least >= LEAST_WORD, f"a word of {name} is {least:.2f} high, {width} by {height}")
+                    same(wide, [], f"what is wider than its place in {name} over {pages} pages")
+
+
 def check_widths(bench):
     """Nothing goes over the page's edge, in narrow windows and at 200 percent."""
     with bench.kept_page() as page:
