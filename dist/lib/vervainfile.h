@@ -433,7 +433,8 @@ uint32_t vf_flex_checked_block_size(const uint8_t *memory, size_t len, const str
  *
  * A block is told by its anchor, and stands at a place as in any slot, here a multiple of 8. It holds as long as the
  * count `slides` does: free, extend, midextend and budge add 1 to it where they have moved a block. Slides take longer
- * where a slot has more anchors and blocks.
+ * where a slot has more anchors and blocks. `anchors` of the struct is yours to change, between 64 and what
+ * vf_flex_start_with was told, as long as each block's anchor is below it: the words of those above stay 0.
  *
  * Each call tests first, and has changed nothing then: VF_NULL; VF_BAD_LENGTH where `len` is below 512 or above 1 GiB;
  * VF_NO_SLOT; VF_SHORT where `top` exceeds `len`; VF_BAD_ANCHOR where there is an anchor. A refused call leaves all
@@ -445,7 +446,7 @@ uint32_t vf_flex_checked_block_size(const uint8_t *memory, size_t len, const str
 struct vf_wide_slot {
     size_t base;      /* the place where the blocks begin */
     size_t top;       /* the place where they end */
-    uint32_t anchors; /* how many anchors it has, from 0 on */
+    uint32_t anchors; /* how many anchors it has, from 0 on; you may change it: see above */
     uint32_t slides;  /* how many calls have moved a block; behind 4,294,967,295 comes 0 */
 };
 
