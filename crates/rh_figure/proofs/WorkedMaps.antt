@@ -3,7 +3,7 @@ use Rattle.std.specs.Prelude.{◌≡◌, refl, ℕ, List, [], ◌∷◌, ◌++�
 use Rattle.std.specs.List.{flat_map}
 use Rattle.hex.proofs.OnLiterals.{hex_on_literals}
 use Rattle.rh_figure.specs.Map.{map_text}
-use Rattle.rh_figure.specs.Map as Map
+use Rattle.rh_figure.specs.Inner.ComputingMaps.{computing_map}
 use Rattle.rh_figure.proofs.Settled.{all_settled}
 
 -- lines with their line feeds
@@ -86,7 +86,7 @@ pub hello_map : map_of hello_script 64 ≡ text_of (
     ∷ codes ""
     ∷ []
     )
-unfolding Map.computing hex_on_literals
+unfolding computing_map hex_on_literals
 hello_map = refl
 
 abbrev sliding_script : List (List ℕ)
@@ -194,7 +194,7 @@ pub sliding_map : map_of sliding_script 64 ≡ text_of (
     ∷ codes ""
     ∷ []
     )
-unfolding Map.computing hex_on_literals
+unfolding computing_map hex_on_literals
 sliding_map = refl
 
 abbrev transfer_script : List (List ℕ)
@@ -372,7 +372,7 @@ pub transfer_map : map_of transfer_script 64 ≡ text_of (
     ∷ codes ""
     ∷ []
     )
-unfolding Map.computing hex_on_literals
+unfolding computing_map hex_on_literals
 transfer_map = refl
 
 abbrev made_areas_script : List (List ℕ)
@@ -495,5 +495,5 @@ pub made_areas_map : map_of made_areas_script 8 ≡ text_of (
     ∷ codes ""
     ∷ []
     )
-unfolding Map.computing hex_on_literals
+unfolding computing_map hex_on_literals
 made_areas_map = refl

@@ -2,6 +2,7 @@ pub mod Cards
 pub mod Changes
 pub mod Figure
 pub mod FigureLaws
+pub mod Inner
 pub mod Layout
 pub mod Map
 pub mod Phrases

@@ -17,7 +17,6 @@ use Rattle.rh_defs.specs.Commands.{step}
 use Rattle.rh_defs.specs.Runs.{start}
 use Rattle.rh_defs.specs.Text.{reply_text, fault_text, state_name}
 use Rattle.rh_defs.specs.Script.{ended, unended}
-use Rattle.rh_defs.specs.Inner.Computing.{computing_script}
 use Rattle.rh_figure.specs.Share.{Share}
 use Rattle.rh_figure.specs.Scene.{Scene, Before, before_of, marks_of, is_still, scene_of}
 use Rattle.rh_figure.specs.Phrases.{Text, cut, where_so, commas}
@@ -210,8 +209,3 @@ written_lines lines = flat_map (λ line. shown_line line ++ codes "\n") lines
 -- all that `map` writes of the lines of a script
 abbrev pub map_text : Bool → List Stage → ℕ → FileList → List ℕ
 map_text marked stages pages files = written_lines (map_lines marked (map_start pages files) stages)
-
--- opens all that a map computes with
-unfoldable pub computing : Unit {0}
-unfolding computing_script figure
-computing = tt

@@ -9,7 +9,7 @@ use Rattle.rh_figure.specs.Map.{Stage, map_start}
 use Rattle.rh_sheet.specs.Sheet.{sheet_lines}
 use Rattle.rh_sheet.specs.WellFormed.{Words, Lost, read_on}
 use Rattle.rh_sheet.specs.TextLaws.{markup, AreRetold}
-use Rattle.rh_sheet.specs.Sheet as sheet
+use Rattle.rh_sheet.specs.Inner.ComputingSheets.{computing_sheet}
 
 -- lines with their line feeds
 abbrev text_of : List (List ℕ) → List ℕ
@@ -170,7 +170,7 @@ rest_of_sheet =
 pub worked_sheet :
     sheet_lines false (record { place = map_start 8 []; shown = 0; last = 0; left = 0; opened = false; notes = [] }) stages
     ≡ text_of (first_step ++ module_part ++ second_step ++ module_part ++ rest_of_sheet)
-unfolding sheet.computing hex_on_literals
+unfolding computing_sheet hex_on_literals
 worked_sheet = refl
 
 -- ---- what a reader makes of small documents
@@ -210,7 +210,7 @@ abbrev said_with_signs : List Stage
 said_with_signs = stage (codes "#</p><b></b> \"&") (shared 7 []) ∷ stage (codes "<i>x</i>") (shared 7 []) ∷ []
 
 retold : AreRetold said said_with_signs
-unfolding sheet.computing
+unfolding computing_sheet
 retold = (
   record { meaning = refl; share = refl; skipped = λ none. record { title = refl; words = refl; remark = refl } },
   (record { meaning = refl; share = refl; skipped = λ none. record { title = refl; words = refl; remark = refl } }, tt),
@@ -225,5 +225,5 @@ marked_up :
     ∷ codes "<p class=\"remark\"></p><h2><b></b><code></code></h2><pre></pre><p class=\"still\"></p></div></section>"
     ∷ codes "</main><nav id=\"d2\"><a href=\"#d1\"></a></nav></body></html>" ∷ []
     )
-unfolding sheet.computing hex_on_literals
+unfolding computing_sheet hex_on_literals
 marked_up = refl

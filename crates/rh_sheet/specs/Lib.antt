@@ -4,6 +4,7 @@ pub mod FateLaws
 pub mod Fates
 pub mod Fixed
 pub mod Frames
+pub mod Inner
 pub mod Markup
 pub mod Owners
 pub mod Pool

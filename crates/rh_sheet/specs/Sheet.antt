@@ -14,14 +14,13 @@ use Rattle.rh_defs.specs.Text.{reply_text, fault_text}
 use Rattle.rh_figure.specs.Share.{Share}
 use Rattle.rh_figure.specs.Scene.{Scene, Before, before_of, marks_of, is_still, scene_of}
 use Rattle.rh_figure.specs.Phrases.{Text, where_so}
-use Rattle.rh_figure.specs.Map
 use Rattle.rh_figure.specs.Map.{Place, Read, Stage, after_read, is_mark}
 use Rattle.rh_sheet.specs.declared.sizes.TheConstants.{MOST_STEPS}
 use Rattle.rh_sheet.specs.Markup.{escape, step_link}
 use Rattle.rh_sheet.specs.Fixed.{style_text, signs_text, key_text}
 use Rattle.rh_sheet.specs.Pool.{grid_text}
 use Rattle.rh_sheet.specs.Fates.{Note, noted}
-use Rattle.rh_sheet.specs.SheetSteps.{figure_text, step_open, step_text, remark_byte, remark_text, said_end, step_end}
+use Rattle.rh_sheet.specs.SheetSteps.{step_open, step_text, remark_byte, remark_text, said_end, step_end}
 
 -- ---- head and foot
 
@@ -177,8 +176,3 @@ sheet_end x = open_rest x ++ sheet_foot (steps_begun x) x.left
 abbrev pub sheet_lines : Bool → Walk → List Stage → Text
 sheet_lines marked x [] = sheet_end x
 sheet_lines marked x ((r, s) ∷ rest) = read_text marked s x r ++ sheet_lines marked (behind_read marked s x r) rest
-
--- opens all that a sheet computes with
-unfoldable pub computing : Unit {0}
-unfolding Map.computing figure_text
-computing = tt
