@@ -93,7 +93,7 @@ pub record Budged (b c : List ℕ) (s t : WideSlot) (by : ℕ) : Type 0 where
   pub slides : t.slides ≡ slides_if (any_moved s.anchors b c) s.slides
   pub below : SameIn b c (8 * s.anchors) s.base
 
--- it is granted this
+-- A call that gives bytes below the blocks is granted or refused so, and answers so; where it is refused all stays.
 pub record LeavesBudged (b c : List ℕ) (s t : WideSlot) (granted : Granted (ℕ × ℕ)) (result : Granted ℕ) : Type 0 where
   pub answer : result ≡ answer_of granted
   pub left : IfOk granted (λ p. Budged b c s t p.0)
