@@ -8,7 +8,7 @@ use Rattle.clap.specs.declared.error.kind.ErrorKind.TheVariants as kind
 use Rattle.rh_defs.specs.Line.{nth_word}
 use Rattle.rh_explained.specs.ShownBytes.{shown}
 use Rattle.rh_desk.specs.declared.hint.Hint.{Hint}
-use Rattle.rh_desk.specs.declared.hint.Hint.TheVariants.{RunScript, CommandsOfHelp, OptionBehind, Marked, Slot, Pages, Output, OneFile}
+use Rattle.rh_desk.specs.declared.hint.Hint.TheVariants.{RunScript, CommandsOfHelp, OneOfHelp, OptionBehind, Marked, Slot, Pages, Output, OneFile}
 
 -- whether a word begins as options do
 abbrev pub is_option : List ℕ → Bool
@@ -35,7 +35,8 @@ of_options verb (w ∷ ws) = option_or (of_option verb w) (of_options verb ws)
 -- what helps, by the kind of the mistake
 abbrev pub hint_of : ErrorKind → List (List ℕ) → Option Hint
 hint_of kind.InvalidSubcommand words =
-    Some (if bytes_eq (nth_word words 2) (codes "help") then CommandsOfHelp else RunScript)
+    Some (if not (bytes_eq (nth_word words 2) (codes "help")) then RunScript
+        else if nat_lt 3 (length words) then OneOfHelp else CommandsOfHelp)
 hint_of kind.UnknownArgument words =
     if is_option (nth_word words 2) then Some OptionBehind else of_options (nth_word words 2) words
 hint_of k words = None
@@ -44,6 +45,7 @@ hint_of k words = None
 abbrev pub hint_text : Hint → List ℕ → List ℕ
 hint_text RunScript verb = codes "  to run a script: vervainfile run " ++ (shown verb ++ codes "\n")
 hint_text CommandsOfHelp verb = codes "  help has run, explain, map, draw, check and commands of scripts, as alloc\n"
+hint_text OneOfHelp verb = codes "  help has one command behind it, as alloc or rma claim\n"
 hint_text OptionBehind verb = codes "  options stand behind the command, as in run --pages 8 hello.desk\n"
 hint_text Marked verb = codes "  --marked belongs to map and draw\n"
 hint_text Slot verb = codes "  --slot belongs to check\n"

@@ -16,6 +16,8 @@ pub enum Hint {
     RunScript,
     /// `help` doesn't know the word behind it.
     CommandsOfHelp,
+    /// `help` has more than one command behind it.
+    OneOfHelp,
     /// An option stands before its command.
     OptionBehind,
     /// `--marked` belongs to other commands.
@@ -37,10 +39,12 @@ impl Hint {
     {
         let verb = word(words, 2);
         match kind {
-            ErrorKind::InvalidSubcommand => Some(if is(verb, b"help") {
-                Hint::CommandsOfHelp
-            } else {
+            ErrorKind::InvalidSubcommand => Some(if !is(verb, b"help") {
                 Hint::RunScript
+            } else if words.len() > 3 {
+                Hint::OneOfHelp
+            } else {
+                Hint::CommandsOfHelp
             }),
             ErrorKind::UnknownArgument => of_argument(verb, words),
             _ => None,
@@ -61,6 +65,9 @@ impl Hint {
                 pen.put(
                     b"  help has run, explain, map, draw, check and commands of scripts, as alloc\n",
                 );
+            }
+            Hint::OneOfHelp => {
+                pen.put(b"  help has one command behind it, as alloc or rma claim\n");
             }
             Hint::OptionBehind => {
                 pen.put(b"  options stand behind the command, as in run --pages 8 hello.desk\n");
