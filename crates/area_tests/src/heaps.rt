@@ -5,10 +5,11 @@ ghost use Rattle.rh_heap.specs.HeapSpans.{IsSpan};
 
 use crate::answer::{placed, shown, tell};
 use crate::row::Row;
-use rh_defs::sizes::{HEAP_FIRST, HEAP_UNIT, moved};
+use arrayvec::ArrayVec;
+use rh_defs::sizes::{HEAP_FIRST, HEAP_UNIT, SEGMENTS_AT_ONCE, moved};
 use rh_heap::{
-    Span, block_size, check, claim, describe, end, extend_heap, holds, init, need, release, resize,
-    resize_need, segment, segments_from,
+    Segment, Span, block_size, check, claim, describe, end, extend_heap, holds, init, need,
+    release, resize, resize_need, segment, segments_from,
 };
 use rh_store::{Store, Words, WordsMut};
 use std::alloc::Global;
@@ -126,11 +127,31 @@ pub(crate) fn list<S: Words>(
         "describe" => shown(alloc, describe(store, span)),
         "end" => shown(alloc, end(store, span)),
         "segment" => shown(alloc, segment(store, span, row.size(1)?)),
-        "segments" => shown(alloc, segments_from(store, span, row.size(1)?)),
-        "count" => shown(alloc, segments_from(store, span, row.size(1)?).len()),
+        "segments" => shown(alloc, segments(store, span, row.size(1)?)),
+        "count" => shown(alloc, segments(store, span, row.size(1)?).len()),
         "bytes" => bytes(alloc, store, span),
         _ => None,
     }
+}
+
+/// A list that is to be lent, with a segment that no heap here has.
+pub(crate) fn with_another() -> ArrayVec<Segment, SEGMENTS_AT_ONCE> {
+    let mut segments = ArrayVec::new();
+    segments.push(Segment {
+        place: 9,
+        size: 1,
+        used: true,
+    });
+    segments
+}
+
+/// What the heap puts into a list that held another segment before.
+fn segments<S: Words>(store: &S, span: Span, place: usize) -> ArrayVec<Segment, SEGMENTS_AT_ONCE>
+    requires { IsSpan (S.memory store.now) span }
+{
+    let mut segments = with_another();
+    segments_from(store, span, place, &mut segments);
+    segments
 }
 
 /// The heap's bytes, and what the checker says of them.

@@ -6,12 +6,14 @@ ghost use Rattle.rh_slot.specs.SlotArea.{IsSlotIn};
 ghost use Rattle.rh_defs.specs.declared.sizes.TheConstants.{ANCHORS, MAX_AREAS};
 
 use crate::answer::{placed, shown, tell};
+use crate::heaps::with_another;
 use crate::row::Row;
 use arrayvec::ArrayVec;
-use rh_defs::sizes::ANCHORS;
+use rh_defs::sizes::{ANCHORS, SEGMENTS_AT_ONCE};
 use rh_defs::{Anchor, BlockItem};
+use rh_heap::Segment;
 use rh_slot::{Slot, free_anchor, put_from, write_from};
-use rh_store::{Paged, Store};
+use rh_store::{Paged, Store, Words};
 use std::alloc::Global;
 use std::io;
 
@@ -117,12 +119,21 @@ fn ask<S: Store>(alloc: Global, store: &S, slot: Slot, word: &str, row: &Row<'_>
         "take_pages" => shown(alloc, slot.take_pages(store, row.number(1)?)),
         "block_size" => shown(alloc, slot.block_size(store, row.size(1)?)),
         "segment" => shown(alloc, slot.segment(store, row.size(1)?)),
-        "segments" => shown(alloc, slot.segments_from(store, row.size(1)?)),
+        "segments" => shown(alloc, segments(store, slot, row.size(1)?)),
         "describe" => shown(alloc, slot.describe(store)),
         "inside" => shown(alloc, slot.inside(store, row.size(1)?, row.size(2)?)),
         "free_pages" => shown(alloc, store.free_pages()),
         _ => ask_flex(alloc, store, slot, word, row),
     }
+}
+
+/// What the slot puts into a list that held another segment before.
+fn segments<S: Words>(store: &S, slot: Slot, place: usize) -> ArrayVec<Segment, SEGMENTS_AT_ONCE>
+    requires { IsSlotIn (S.memory store.now) slot }
+{
+    let mut segments = with_another();
+    slot.segments_from(store, place, &mut segments);
+    segments
 }
 
 /// What a question about flex blocks answers.

@@ -145,5 +145,7 @@ pub fn segments_from(memory: &[u8], place: usize) -> ArrayVec<Segment, SEGMENTS_
     ensures { result.items ≡ segments_from place (heap_of memory.now 0) }
 {
     let store = Lent { bytes: memory };
-    rh_heap::segments_from(&store, WHOLE, place)
+    let mut segments = ArrayVec::new();
+    rh_heap::segments_from(&store, WHOLE, place, &mut segments);
+    segments
 }

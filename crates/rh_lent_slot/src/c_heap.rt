@@ -119,7 +119,9 @@ impl LentSlot {
         let LentSlot { pages, budge, .. } = self;
         let store = LentPages { bytes, pages };
         let slot = Slot { area: LENT, budge };
-        slot.segments_from(&store, place)
+        let mut segments = ArrayVec::new();
+        slot.segments_from(&store, place, &mut segments);
+        segments
     }
 
     /// The C heap's end in bytes, its largest free block, and the bytes of all its holes and its top.

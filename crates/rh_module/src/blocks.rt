@@ -127,7 +127,9 @@ impl Module {
         requires { IsModule (S.memory store.now) self }
         ensures { result.items ≡ segments_from place (module_heap_in (S.memory store.now) self) }
     {
-        rh_heap::segments_from(store, self.span(), place)
+        let mut segments = ArrayVec::new();
+        rh_heap::segments_from(store, self.span(), place, &mut segments);
+        segments
     }
 
     /// Whether the `n` bytes at an address lie whole in one block, also where `n` is 0. Any address and any `n` may be

@@ -14,21 +14,22 @@ use rh_defs::{Anchor, Name, Refusal, SegmentItem};
 use rh_store::Store;
 use rh_tasks::{NamedFiles, World};
 
-/// Up to 64 segments of the task's C heap in order of place, from the one that begins at a place on, in bytes from the
-/// heap's first one.
+/// Puts up to 64 segments of the task's C heap into a list, in place of what it held: in order of place, from the one
+/// that begins at a place on, in bytes from the heap's first one.
 pub fn segments_of<S: Store, F: NamedFiles>(
     world: &World<S, F>,
     name: &Name,
     place: u32,
-) -> ArrayVec<SegmentItem, SEGMENTS_AT_ONCE>
-    ensures items { result.items ≡ segment_items_at place (heap_of_named name.now world.now.desk) }
+    items: &mut ArrayVec<SegmentItem, SEGMENTS_AT_ONCE>,
+)
+    ensures items { items.new.items ≡ segment_items_at place (heap_of_named name.now world.now.desk) }
     ensures heap { IsHeap (heap_of_named name.now world.now.desk) }
     ensures short { (heap_of_named name.now world.now.desk).end < 2 ^ 23 }
 {
     world.recall_spelling();
-    match world.segments_of(name, place) {
-        Ok(items) => items,
-        Err(_) => ArrayVec::new(),
+    match world.segments_of(name, place, items) {
+        Ok(()) => {}
+        Err(_) => items.clear(),
     }
 }
 

@@ -11,6 +11,7 @@ ghost use Rattle.rh_script.specs.Inner.SegmentsBehind.{item_end, segments_of_nam
 
 use crate::gathered::{Item, print_items};
 use crate::read::segments_of;
+use arrayvec::ArrayVec;
 use rh_defs::sizes::{C_HEAP_START, HEAP_FIRST};
 use rh_defs::{Name, Numbers, Reply, SegmentItem};
 use rh_lines::{Pen, Row, put_first_line};
@@ -53,11 +54,12 @@ fn print_segments<S: Store, F: NamedFiles, P: Pen>(world: &World<S, F>, name: &N
         ++ flat_map segment_line (segments_of_named name.now world.now.desk) }
 {
     let mut place = HEAP_FIRST as u32;
-    let mut items = segments_of(world, name, place);
+    let mut items = ArrayVec::new();
+    segments_of(world, name, place, &mut items);
     'places: while let Some(last) = items.last() {
         print_items(Row::new(), &items, pen);
         place = place_behind(last);
-        items = segments_of(world, name, place);
+        segments_of(world, name, place, &mut items);
     }
 }
 

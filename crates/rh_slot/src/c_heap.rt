@@ -193,17 +193,18 @@ impl Slot {
         rh_heap::segment(store, self.span(), place)
     }
 
-    /// Up to 64 segments of the C heap in order of place, from the one that begins at `place` on; none where none
-    /// begins there.
+    /// Puts up to 64 segments of the C heap into a list, in place of what it held: in order of place, from the one that
+    /// begins at `place` on; none where none begins there.
     pub fn segments_from<S: Words>(
         self,
         store: &S,
         place: usize,
-    ) -> ArrayVec<Segment, SEGMENTS_AT_ONCE>
+        segments: &mut ArrayVec<Segment, SEGMENTS_AT_ONCE>,
+    )
         requires slot { IsSlotIn (S.memory store.now) self }
-        ensures { result.items ≡ segments_from place (slot_in (S.memory store.now) self).heap }
+        ensures { segments.new.items ≡ segments_from place (slot_in (S.memory store.now) self).heap }
     {
-        rh_heap::segments_from(store, self.span(), place)
+        rh_heap::segments_from(store, self.span(), place, segments);
     }
 
     /// The C heap's end in bytes, its largest free block, and the bytes of all its holes and its top. (OS_Heap 1.)

@@ -127,18 +127,21 @@ fn segment_item(start: u32, place: u32, segment: Segment) -> SegmentItem
     SegmentItem::Hole { address, size }
 }
 
-/// Segments of a heap, as they are listed, by the heap's address.
-pub fn segment_items(start: u32, segments: &[Segment]) -> ArrayVec<SegmentItem, SEGMENTS_AT_ONCE>
+/// Puts segments of a heap into a list, in place of what it held: as they are listed, by the heap's address.
+pub fn segment_items(
+    start: u32,
+    segments: &[Segment],
+    items: &mut ArrayVec<SegmentItem, SEGMENTS_AT_ONCE>,
+)
     requires start { start ≤ area_limit }
     requires few { length segments.now ≤ SEGMENTS_AT_ONCE }
     requires small { AllByRecursion IsSmallSegment segments.now }
-    ensures { result.items ≡ map (placed_item start) segments.now }
+    ensures { items.new.items ≡ map (placed_item start) segments.now }
 {
-    let mut items = ArrayVec::new();
+    items.clear();
     for segment in segments {
         items.push(segment_item(start, segment.place as u32, *segment));
     }
-    items
 }
 
 impl<S: Store, F: NamedFiles> World<S, F> {
@@ -201,19 +204,23 @@ impl<S: Store, F: NamedFiles> World<S, F> {
         ))
     }
 
-    /// Up to 64 segments of the task's C heap in order of place, from the one that begins at `place` on, in bytes from
-    /// the heap's first one, none where none begins there; NoName where no task has the name.
+    /// Puts up to 64 segments of the task's C heap into a list, in place of what it held: in order of place, from the
+    /// one that begins at `place` on, in bytes from the heap's first one, none where none begins there; NoName where no
+    /// task has the name, which leaves the list as it was.
     pub fn segments_of(
         &self,
         name: &Name,
         place: u32,
-    ) -> Result<ArrayVec<SegmentItem, SEGMENTS_AT_ONCE>, Refusal>
-        ensures ok { IfOk result (λ items. segments_of self.now.desk name.now place ≡ Ok items.items) }
-        ensures err { IfErr result (λ e. segments_of self.now.desk name.now place ≡ Err e) }
+        items: &mut ArrayVec<SegmentItem, SEGMENTS_AT_ONCE>,
+    ) -> Result<(), Refusal>
+        ensures ok { OnOk result (segments_of self.now.desk name.now place ≡ Ok items.new.items) }
+        ensures err { IfErr result (λ e. (segments_of self.now.desk name.now place ≡ Err e) × (items.new ≡ items.old)) }
     {
         let slot = slot_of(&self.seats, name)?;
-        let segments = slot.segments_from(&self.store, place as usize);
-        Ok(segment_items(C_HEAP_START as u32, &segments))
+        let mut segments = ArrayVec::new();
+        slot.segments_from(&self.store, place as usize, &mut segments);
+        segment_items(C_HEAP_START as u32, &segments, items);
+        Ok(())
     }
 
     /// The size in bytes of the task's block at the anchor (flex_size), and its bytes from an offset on; NoName,

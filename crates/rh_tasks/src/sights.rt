@@ -139,8 +139,11 @@ impl<S: Store, F: NamedFiles> World<S, F> {
     {
         let i = with_handle(&self.seats, handle).ok_or(Refusal::NoTask)?;
         let slot = self.seats[i].slot;
-        let segments = slot.segments_from(&self.store, place as usize);
-        Ok(segment_items(C_HEAP_START as u32, &segments))
+        let mut segments = ArrayVec::new();
+        slot.segments_from(&self.store, place as usize, &mut segments);
+        let mut items = ArrayVec::new();
+        segment_items(C_HEAP_START as u32, &segments, &mut items);
+        Ok(items)
     }
 
     /// Fills a buffer that was lent with the bytes at an address of a live task's slot; NoTask, or BadRange where they
@@ -173,7 +176,9 @@ impl<S: Store, F: NamedFiles> World<S, F> {
         ensures { result.items ≡ items_at module_start place self.now.desk.post.heap }
     {
         let segments = MODULE.segments_from(&self.store, place as usize);
-        segment_items(MODULE_START as u32, &segments)
+        let mut items = ArrayVec::new();
+        segment_items(MODULE_START as u32, &segments, &mut items);
+        items
     }
 
     /// The size in bytes of a block of the module area that a command claimed, and its bytes from an offset on;

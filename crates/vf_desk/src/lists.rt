@@ -90,8 +90,9 @@ fn list_run(
         filled_from at (map as_segment (segment_items_at place (heap_of_named name.now world.now.desk))) to.old }
     ensures told { IsRun (segment_items_at place (heap_of_named name.now world.now.desk)) result }
 {
-    match &world.segments_of(name, place) {
-        Ok(items) => put_run(items, to, at),
+    let mut items = ArrayVec::new();
+    match world.segments_of(name, place, &mut items) {
+        Ok(()) => put_run(&items, to, at),
         Err(_) => None,
     }
 }

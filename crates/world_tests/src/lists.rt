@@ -1,8 +1,8 @@
 //! Lists that a world fills, which held another item before.
 
 use arrayvec::ArrayVec;
-use rh_defs::sizes::{ANCHORS, MOST_MESSAGES};
-use rh_defs::{Anchor, BlockItem, Handle, MessageItem, Name};
+use rh_defs::sizes::{ANCHORS, MOST_MESSAGES, SEGMENTS_AT_ONCE};
+use rh_defs::{Anchor, BlockItem, Handle, MessageItem, Name, SegmentItem};
 use rh_store::Store;
 use rh_tasks::{NamedFiles, World};
 use std::alloc::Global;
@@ -37,6 +37,22 @@ pub(crate) fn blocks_in<S: Store, F: NamedFiles>(
 ) -> Option<String> {
     let mut items = with_another();
     let answer = world.blocks_in(handle, &mut items);
+    format!(in alloc; "{answer:?} {items:?}").ok()
+}
+
+/// The answer of a task that is named, and a list of segments after it, which held another before.
+pub(crate) fn segments_of<S: Store, F: NamedFiles>(
+    alloc: Global,
+    world: &World<S, F>,
+    name: &Name,
+    place: u32,
+) -> Option<String> {
+    let mut items: ArrayVec<SegmentItem, SEGMENTS_AT_ONCE> = ArrayVec::new();
+    items.push(SegmentItem::Hole {
+        address: 9,
+        size: 1,
+    });
+    let answer = world.segments_of(name, place, &mut items);
     format!(in alloc; "{answer:?} {items:?}").ok()
 }
 

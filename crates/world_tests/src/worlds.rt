@@ -113,7 +113,7 @@ fn ask<S: Store, F: NamedFiles>(
         "areas" => shown(alloc, world.areas(row.size(1)?)),
         "area_entry" => shown(alloc, world.area_entry(row.size(1)?)),
         "blocks_of" => lists::blocks_of(alloc, world, &row.name(1)?),
-        "segments_of" => shown(alloc, world.segments_of(&row.name(1)?, row.number(2)?)),
+        "segments_of" => lists::segments_of(alloc, world, &row.name(1)?, row.number(2)?),
         _ => sights::ask(alloc, world, word, row),
     }
 }

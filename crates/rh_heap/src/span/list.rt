@@ -28,19 +28,20 @@ fn first_segment<S: Words>(store: &S, span: Span, place: usize) -> Option<Spot>
     find_segment(store, span, place)
 }
 
-/// As many segments as are told at a time in order of place, from the one that begins at `place` on; none where none
-/// begins there.
+/// Puts as many segments as are told at a time into a list, in place of what it held: in order of place, from the one
+/// that begins at `place` on; none where none begins there.
 pub fn segments_from<S: Words>(
     store: &S,
     span: Span,
     place: usize,
-) -> ArrayVec<Segment, SEGMENTS_AT_ONCE>
+    segments: &mut ArrayVec<Segment, SEGMENTS_AT_ONCE>,
+)
     requires { IsSpan (S.memory store.now) span }
-    ensures { result.items ≡ segments_from place (heap_in (S.memory store.now) span) }
+    ensures { segments.new.items ≡ segments_from place (heap_in (S.memory store.now) span) }
 {
-    let mut segments = ArrayVec::new();
+    segments.clear();
     let Some(spot) = first_segment(store, span, place) else {
-        return segments;
+        return;
     };
     let base = read(store, span, HEAP_BASE);
     let mut from = spot.from;
@@ -63,5 +64,4 @@ pub fn segments_from<S: Words>(
         segments.push(segment);
         place += segment.size;
     }
-    segments
 }

@@ -13,7 +13,7 @@ returns-in-Ok-clause-short g c = omega (arith, named_is_short c.args.name.now c.
 
 pub returns-in-Err-clause-items : goal.returns-in-Err-clause-items
 returns-in-Err-clause-items g c =
-    c.new.ensures ∙ no_segments c.args.world.now.desk c.args.name.now c.args.place _ c.in-Err.ensures.err
+    c.clear.ensures ∙ no_segments c.args.world.now.desk c.args.name.now c.args.place _ c.in-Err.ensures.err.0
 
 pub returns-in-Err-clause-heap : goal.returns-in-Err-clause-heap
 returns-in-Err-clause-heap g c = (named_is_slot c.args.name.now c.args.world.now.desk c.recall_spelling.ensures.desk.slots).heap

@@ -5,18 +5,18 @@ use Rattle.vf_desk.proofs.lists.list_run.Goals as goal
 
 pub returns-in-Ok-clause-list : goal.returns-in-Ok-clause-list
 returns-in-Ok-clause-list c =
-    rw (← segments_read c.args.world.now.desk c.args.name.now c.args.place _ (rw c.in-Ok.is at c.segments_of.ensures.ok), ← c.deref.ensures.0)
+    rw (← segments_read c.args.world.now.desk c.args.name.now c.args.place _ c.in-Ok.ensures.ok, ← c.deref.ensures.0)
     c.put_run.ensures.list
 
 pub returns-in-Ok-clause-told : goal.returns-in-Ok-clause-told
 returns-in-Ok-clause-told c =
-    rw (← segments_read c.args.world.now.desk c.args.name.now c.args.place _ (rw c.in-Ok.is at c.segments_of.ensures.ok), ← c.deref.ensures.0)
+    rw (← segments_read c.args.world.now.desk c.args.name.now c.args.place _ c.in-Ok.ensures.ok, ← c.deref.ensures.0)
     c.put_run.ensures.told
 
 pub returns-in-Err-clause-list : goal.returns-in-Err-clause-list
 returns-in-Err-clause-list c =
-    rw (← no_segments c.args.world.now.desk c.args.name.now c.args.place _ (rw c.in-Err.is at c.segments_of.ensures.err))
+    rw (← no_segments c.args.world.now.desk c.args.name.now c.args.place _ c.in-Err.ensures.err.0)
     (sym (from-none c.args.at c.args.to.now))
 
 pub returns-in-Err-clause-told : goal.returns-in-Err-clause-told
-returns-in-Err-clause-told c = no_segments c.args.world.now.desk c.args.name.now c.args.place _ (rw c.in-Err.is at c.segments_of.ensures.err)
+returns-in-Err-clause-told c = no_segments c.args.world.now.desk c.args.name.now c.args.place _ c.in-Err.ensures.err.0

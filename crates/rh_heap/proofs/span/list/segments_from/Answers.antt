@@ -7,8 +7,8 @@ use Rattle.rh_heap.proofs.span.list.segments_from.Goals as goal
 
 pub walk-init : goal.walk-init
 walk-init g c = record {
-  few = let e = ap length c.new-segments.ensures in omega arith;
-  lists = lists_start _ _ _ _ _ c.in-Some.ensures c.new-segments.ensures;
+  few = let e = ap length c.clear.ensures in omega arith;
+  lists = lists_start _ _ _ _ _ c.in-Some.ensures c.clear.ensures;
 }
 
 pub read-requires-clause-within : goal.read-requires-clause-within

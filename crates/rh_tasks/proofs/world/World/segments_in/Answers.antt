@@ -16,13 +16,13 @@ pub segment_items-requires-clause-small : goal.segment_items-requires-clause-sma
 segment_items-requires-clause-small g c =
     let a = seat-of _ _ _ _ (place-is _ c.with_handle.result c.in_ok-i.ensures.value c.with_handle.ensures) c.index.ensures in
     let is = seat-slot c.self.invariant a.at in
-    rw (c.deref.ensures.0, c.segments_from-segments.ensures)
+    rw (c.deref.ensures.0, c.segments_from.ensures)
     (small_from c.args.place (slot_in (g.S.Words.memory c.self.inside.store) c.index.result.now.slot).heap
     (omega (arith, is.spells.words.heap.heap.fits, small-end is (g.met.S.Words.small c.self.inside.store c.index.result.now.slot.area.0))))
 
 pub returns-clause-ok : goal.returns-clause-ok
 returns-clause-ok g c =
     let a = seat-of _ _ _ _ (place-is _ c.with_handle.result c.in_ok-i.ensures.value c.with_handle.ensures) c.index.ensures in
-    rw (← c.self.view_is, c.segment_items.ensures, c.deref.ensures.0, c.segments_from-segments.ensures)
+    rw (← c.self.view_is, c.segment_items.ensures, c.deref.ensures.0, c.segments_from.ensures)
     (segments-are c.self.invariant a c.args.place
     ∙ ap Ok (sym (items_from heap_start c.args.place (slot_in (g.S.Words.memory c.self.inside.store) c.index.result.now.slot).heap)))
