@@ -13,7 +13,7 @@
 
 enum { ROOM = 1 << 20, STACK = 1 << 20, FILL = 0xa5, KIB = 1024, GUARD = 64 * KIB };
 enum { FEW = KIB, TRANSFER = 2 * KIB, QUESTION = 4 * KIB, COMMAND = 8 * KIB };
-enum { LISTS = 9 * KIB, LONGEST_REPLY = 11 * KIB, OPENING = 16 * KIB };
+enum { OPENING = 16 * KIB };
 enum { SMALL_STACK = 24 * KIB, WHOLE_STACK = 64 * KIB };
 
 static uint8_t memory[ROOM], bytes[8192];
@@ -236,9 +236,9 @@ static const struct { const char *name; void (*call)(void); size_t most; } CALLS
     {"desk open", desk_open, OPENING},       {"desk tasks", desk_tasks, COMMAND},
     {"desk flex", desk_flex, COMMAND},       {"desk heaps", desk_heaps, COMMAND},
     {"desk areas", desk_areas, COMMAND},     {"desk transfer", desk_transfer, COMMAND},
-    {"desk questions", desk_questions, LISTS}, {"desk bytes", desk_bytes, COMMAND},
+    {"desk questions", desk_questions, COMMAND}, {"desk bytes", desk_bytes, COMMAND},
     {"desk line", desk_line, COMMAND},       {"desk next", desk_next, QUESTION},
-    {"desk reply", desk_reply, QUESTION},    {"desk reply to heap", desk_heap_reply, LONGEST_REPLY},
+    {"desk reply", desk_reply, QUESTION},    {"desk reply to heap", desk_heap_reply, COMMAND},
     {"desk kill", desk_kill, COMMAND},       {"desk close", desk_close, QUESTION},
 };
 
