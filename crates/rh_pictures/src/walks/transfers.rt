@@ -80,17 +80,17 @@ fn show_task_outs<S: Sight, A: Artist, P: Pen>(
 fn show_out<S: Sight, A: Artist, P: Pen>(
     sight: &S,
     name: &Name,
-    record: &Outgoing,
+    outgoing: &Outgoing,
     artist: &A,
     pen: &mut P,
 )
     ensures { P.offered pen.new ≡ P.offered pen.old
-        ++ A.transfer_text (goes_out (ins_of (S.desk sight.now)) (name.now, out_item_of record.now)) }
+        ++ A.transfer_text (goes_out (ins_of (S.desk sight.now)) (name.now, out_item_of outgoing.now)) }
 {
-    let id = out_id(record);
+    let id = out_id(outgoing);
     let side = Some(Side {
         name,
-        record: out_item(record),
+        record: out_item(outgoing),
     });
     let other = in_side(sight, id);
     artist.transfer(id, &side, &other, pen);
@@ -158,21 +158,21 @@ fn show_task_ins<S: Sight, A: Artist, P: Pen>(
 fn show_if_alone<S: Sight, A: Artist, P: Pen>(
     sight: &S,
     name: &Name,
-    record: &Incoming,
+    incoming: &Incoming,
     artist: &A,
     pen: &mut P,
 )
     ensures { P.offered pen.new ≡ P.offered pen.old
         ++ flat_map A.transfer_text (map comes_alone
-        (alone_among (outs_of (S.desk sight.now)) ((name.now, in_item_of record.now) ∷ []))) }
+        (alone_among (outs_of (S.desk sight.now)) ((name.now, in_item_of incoming.now) ∷ []))) }
 {
-    let id = in_id(record);
+    let id = in_id(incoming);
     if has_out(sight, id) {
         return;
     }
     let side = Some(Side {
         name,
-        record: in_item(record),
+        record: in_item(incoming),
     });
     artist.transfer(id, &None, &side, pen);
 }
@@ -199,26 +199,26 @@ fn has_id(sending: &[Outgoing], id: Ref) -> bool
 }
 
 /// A record of a transfer that goes out, as it is listed.
-fn out_item(record: &Outgoing) -> RecordItem
-    ensures { result ≡ out_item_of record.now }
+fn out_item(outgoing: &Outgoing) -> RecordItem
+    ensures { result ≡ out_item_of outgoing.now }
 {
-    let (state, count) = match record {
+    let (state, count) = match outgoing {
         Outgoing::Open(sending) => (State::Open, sending.count),
         Outgoing::Done { count, .. } => (State::Done, *count),
         Outgoing::Failed { count, .. } => (State::Failed, *count),
     };
     RecordItem {
         state,
-        id: out_id(record),
+        id: out_id(outgoing),
         count,
     }
 }
 
 /// A record of a transfer that comes in, as it is listed.
-fn in_item(record: &Incoming) -> RecordItem
-    ensures { result ≡ in_item_of record.now }
+fn in_item(incoming: &Incoming) -> RecordItem
+    ensures { result ≡ in_item_of incoming.now }
 {
-    let (state, count) = match record {
+    let (state, count) = match incoming {
         Incoming::Fetching(taking) => (State::Fetching, taking.count),
         Incoming::Draining(taking) => (State::Draining, taking.count),
         Incoming::Asking(_) => (State::Asking, 0),
@@ -227,7 +227,7 @@ fn in_item(record: &Incoming) -> RecordItem
     };
     RecordItem {
         state,
-        id: in_id(record),
+        id: in_id(incoming),
         count,
     }
 }

@@ -62,30 +62,30 @@ fn document_of(taking: &[Incoming], anchor: Anchor) -> Option<Ref>
     None
 }
 
-fn is_document(record: &Incoming, anchor: Anchor) -> bool
-    ensures { result ≡ is_document_of anchor record.now }
+fn is_document(incoming: &Incoming, anchor: Anchor) -> bool
+    ensures { result ≡ is_document_of anchor incoming.now }
 {
-    match record {
+    match incoming {
         Incoming::Fetching(taking) => taking.anchor == anchor,
         Incoming::Asking(asked) => asked.anchor == anchor,
         _ => false,
     }
 }
 
-fn is_buffer_of(record: &Incoming, address: u32) -> bool
-    ensures { result ≡ is_buffer_at address record.now }
+fn is_buffer_of(incoming: &Incoming, address: u32) -> bool
+    ensures { result ≡ is_buffer_at address incoming.now }
 {
-    match record {
+    match incoming {
         Incoming::Fetching(taking) | Incoming::Draining(taking) => taking.buffer == address,
         _ => false,
     }
 }
 
 /// The id of a record of a transfer that comes in.
-pub fn in_id(record: &Incoming) -> Ref
-    ensures { result ≡ in_id_of record.now }
+pub fn in_id(incoming: &Incoming) -> Ref
+    ensures { result ≡ in_id_of incoming.now }
 {
-    match record {
+    match incoming {
         Incoming::Fetching(taking) | Incoming::Draining(taking) => taking.id,
         Incoming::Asking(asked) => asked.id,
         Incoming::Done { id, .. } | Incoming::Failed { id, .. } => *id,
@@ -93,10 +93,10 @@ pub fn in_id(record: &Incoming) -> Ref
 }
 
 /// The id of a record of a transfer that goes out.
-pub fn out_id(record: &Outgoing) -> Ref
-    ensures { result ≡ out_id_of record.now }
+pub fn out_id(outgoing: &Outgoing) -> Ref
+    ensures { result ≡ out_id_of outgoing.now }
 {
-    match record {
+    match outgoing {
         Outgoing::Open(sending) => sending.id,
         Outgoing::Done { id, .. } | Outgoing::Failed { id, .. } => *id,
     }
