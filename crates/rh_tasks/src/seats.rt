@@ -23,10 +23,23 @@ pub fn is_name_in_use(seats: &Seats, name: &Name) -> bool
     seats.iter().any(|seat| seat.name == *name)
 }
 
+/// The place of the task with the name. The first task is looked at before the others, with no loop.
+#[inline(always)]
 fn position_of(seats: &Seats, name: &Name) -> Option<usize>
     ensures { result ≡ position (is_named name.now) seats.now.items }
 {
     let all = seats.as_slice();
+    if !all.is_empty() && all[0].name == *name {
+        return Some(0);
+    }
+    position_by_turns(all, name)
+}
+
+/// The place of the task with the name among any number of them.
+#[inline(never)]
+fn position_by_turns(all: &[Seat], name: &Name) -> Option<usize>
+    ensures { result ≡ position (is_named name.now) all.now }
+{
     let mut at = 0;
     while all.len() - at >= TURN {
         if let Some(i) = position_in(&all[at..at + TURN], name) {
@@ -49,6 +62,7 @@ fn position_in(seats: &[Seat], name: &Name) -> Option<usize>
 }
 
 /// The place of the task with the name; NoName where there is none.
+#[inline(always)]
 pub fn find(seats: &Seats, name: &Name) -> Result<usize, Refusal>
     ensures ok { IfOk result (λ i. position (is_named name.now) seats.now.items ≡ Some i) }
     ensures err { IfErr result (λ e. (e ≡ Refusal.NoName) × (position (is_named name.now) seats.now.items ≡ None)) }

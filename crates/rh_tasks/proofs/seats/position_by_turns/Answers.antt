@@ -1,6 +1,6 @@
 use Rattle.std.proofs.Common.{sym, arith}
 use Rattle.rh_wimp.proofs.PlaceLaws.{none-in}
-use Rattle.rh_tasks.proofs.seats.position_of.Goals as goal
+use Rattle.rh_tasks.proofs.seats.position_by_turns.Goals as goal
 
 pub loop-at-preserved : goal.loop-at-preserved
 loop-at-preserved c =
