@@ -55,8 +55,12 @@ export class Guess {
     const { guess, guessed, compare } = this.#parts;
     guess.hidden = !this.#parts.predict.checked || !this.#session.state.lines.length;
     const next = this.#next;
+    const hadFocus = guess.contains(document.activeElement);
     for (const part of [this.#parts["guess-asks"], guessed, compare]) part.hidden = next < 0;
-    if (next < 0) return;
+    if (next < 0) {
+      if (hadFocus) this.#parts.step.focus();
+      return;
+    }
     const line = this.#parts["guess-line"];
     if (line.textContent !== String(next + 1)) guessed.value = "";
     line.textContent = next + 1;

@@ -1,6 +1,7 @@
 // The script on the page: a row for each line, with its reply. Of a long script some lines around a place have rows.
 
 import { explained } from "./explain.js";
+import { mended, mendedLines } from "./mend.js";
 import { element } from "./prose.js";
 import { isRemark, outcomeOf } from "./script.js";
 
@@ -22,9 +23,25 @@ function shownReply(reply) {
   return reply.length > SHOWN_REPLY ? `${reply.slice(0, SHOWN_REPLY)}.. (${reply.length} characters)` : reply;
 }
 
+// A button that mends something.
+function fixButton(text, action) {
+  const button = element("button", "fix", text);
+  button.type = "button";
+  button.addEventListener("click", action);
+  return button;
+}
+
+// How many lines of a script have characters that part no words, where its line at a place is one of several.
+function countOdd(lines, index) {
+  if (mended(lines[index]) === lines[index]) return 0;
+  const { count } = mendedLines(lines);
+  return count > 1 ? count : 0;
+}
+
 // One line of the script, whose place changes as others come and go.
 class Row {
   index = -1;
+  #list;
   #line = "";
   root = element("li", "row");
   #number = element("button", "number");
@@ -35,6 +52,7 @@ class Row {
   #remove = element("button", "remove");
 
   constructor(list) {
+    this.#list = list;
     Object.assign(this.#number, { type: "button", tabIndex: -1 });
     Object.assign(this.#remove, { type: "button", tabIndex: -1, textContent: "\u00d7" });
     Object.assign(this.field, { rows: 1, spellcheck: false, autocomplete: "off", autocapitalize: "off" });
@@ -62,24 +80,36 @@ class Row {
     this.root.classList.toggle("remark", isRemark(lines[index]));
     this.root.classList.toggle("changed", hasRun && session.changed.has(index));
     if (isOther) this.#write(lines[index]);
-    const isTold = index === session.command || TOLD.includes(outcomeOf(reply));
-    this.#explain(session, lines[index], isTold ? reply : null);
+    const isLast = index === session.command;
+    const isTold = isLast || TOLD.includes(outcomeOf(reply));
+    const odd = isLast && outcomeOf(reply) === "bad" ? countOdd(lines, index) : 0;
+    this.#explain(session, lines[index], isTold ? reply : null, odd);
   }
 
-  // Tells what the line did, why it was refused, or what is wrong with it; a near miss has a button that mends it.
-  #explain(session, line, reply) {
-    const key = reply === null ? "" : `${line}\n${reply}`;
+  // Tells what the line did, why it was refused, or what is wrong with it. A near miss has a button that mends it; so
+  // have all odd lines together, where it is one of some.
+  #explain(session, line, reply, odd) {
+    const key = reply === null ? "" : `${line}\n${reply}\n${odd}`;
     if (key === this.#explainedFor) return;
     this.#explainedFor = key;
     const { outcome, says, fix } = reply === null ? {} : explained(line, reply);
     this.#why.className = `why ${outcome ?? ""}`.trim();
     this.#why.replaceChildren(says ?? "");
-    if (fix === undefined) return;
-    const button = element("button", "fix");
-    const isEnded = fix === line;
-    Object.assign(button, { type: "button", textContent: isEnded ? "End the line" : `Make it: ${fix.trim()}` });
-    button.addEventListener("click", () => session.replace(this.index, this.index + 1, [fix]));
-    this.#why.append(" ", button);
+    if (fix !== undefined) {
+      const words = fix === line ? "End the line" : `Make it: ${fix.trim()}`;
+      this.#offer(words, () => session.replace(this.index, this.index + 1, [fix]));
+    }
+    if (!odd) return;
+    this.#offer(`Mend all ${odd} such lines`, () => session.change({ lines: mendedLines(session.state.lines).lines }));
+  }
+
+  // Shows a button that mends something; it goes then, and leaves the focus to the line.
+  #offer(words, action) {
+    const mend = () => {
+      action();
+      this.#list.focus(this.index);
+    };
+    this.#why.append(" ", fixButton(words, mend));
   }
 
   // Names what stands in the row by the line's number.

@@ -177,6 +177,12 @@ def check_predictions(bench):
         page.click("run")
         same([page.seen("guess", "guessed", "compare"), page.disabled()], [["guess"], ["redo", "step", "run"]],
              "what is left of it at the end")
+        page.click("back")
+        page.focus("#guessed")
+        page.tab.type("ok")
+        press(page, "Enter")
+        same([page.focused(), page.seen("guess", "guessed"), page.text("progress")],
+             ["step", ["guess"], "23 of 23 lines have run"], "what has the focus behind the last guess")
         page.load("hello")
         same(page.text("guess-told"), "", "what is told of another script")
 
@@ -218,9 +224,10 @@ def check_explained(bench):
               'Word 3 "8114": an address is & and 1 to 8 hexadecimal digits. Make it: release a &8114', "",
               "This line has a tab – part words by spaces. Make it: task c 5", "No message waits for it."],
              "what is told of lines")
-        for left in (3, 2, 1, 0):
-            page.value("document.querySelector('#lines .fix').click()")
-            same(page.value(f"{FIXES}.length"), left, "how many near misses are left")
+        for left, line in ((3, 3), (2, 5), (1, 6), (0, 8)):
+            page.value("document.querySelector('#lines .fix').focus(); document.activeElement.click()")
+            same([page.value(f"{FIXES}.length"), page.focused()], [left, f"Line {line}"],
+                 "how many near misses are left, and what has the focus")
         same([row["reply"] for row in page.rows()], ["ok 1", "ok &9008", "ok", "refused AnchorInUse", "ok 2",
                                                      "refused NotABlock", "ok &8114", "ok 3", "ok 0"], "the replies")
         page.click("undo")
@@ -259,6 +266,20 @@ def check_windows_line_ends(bench):
              "the script that was mended, what is told, and what has the focus")
         page.click("undo")
         same(page.saved("a.desk"), script, "the script when that is taken back")
+        page.click("step")
+        told = page.value("[...document.querySelectorAll('#lines .why')].map((it) => it.textContent)")
+        same(told, ["This line ends in a carriage return – end lines with a line feed alone. Make it: task a 9 "
+                    "Mend all 3 such lines", "", ""], "what is told of the line that ran last")
+        page.click("run")
+        told = page.value("[...document.querySelectorAll('#lines .why')].map((it) => it.textContent)")
+        same([it.endswith("Mend all 3 such lines") for it in told], [False, False, True], "which line has a button")
+        page.value("document.querySelector('#lines > li:last-child .fix:last-child').click()")
+        same([page.saved("a.desk"), page.focused(), page.replies()[:5]], [b"task a 9\n# b\nareas\n", "Line 3", "ok 1\n"],
+             "the script that was mended there, what has the focus, and the first reply")
+        page.drop_bytes("b.desk", b"areas\nareas\t\nareas\n")
+        page.click("run")
+        page.click("back")
+        same(page.value(FIXES), ["Make it: areas"], "the buttons of one odd line")
 
 
 # Clicks on something, and gives what moves then: of each its title, its words or its class, and from where to where.
