@@ -2,6 +2,7 @@
 
 import { shownText } from "./bytes.js";
 import { moveParts, partsIn } from "./movement.js";
+import { element } from "./prose.js";
 
 // The style of a sheet; a browser would refuse one that it finds in a page.
 const STYLE = /<style>([^]*?)<\/style>/;
@@ -36,6 +37,45 @@ function copies(elements) {
   return elements.filter(Boolean).map((element) => document.importNode(element, true));
 }
 
+// How far down the names above a chart reach, and what lies behind the last page of a pool, in a picture's own units.
+const HEADS = 24;
+const EDGE = 2;
+
+// The names above a chart once more, as wide as it: they stay in sight where it is scrolled.
+function headsOf(chart) {
+  const heads = chart.cloneNode(false);
+  const frame = document.createElement("div");
+  heads.setAttribute("viewBox", `0 0 ${chart.viewBox.baseVal.width} ${HEADS}`);
+  heads.append(...[...chart.querySelectorAll(".who")].map((name) => name.cloneNode(true)));
+  Object.assign(frame, { className: "heads", ariaHidden: "true" });
+  frame.append(heads);
+  return frame;
+}
+
+// What stands before a pool, in words.
+function wordsOfPool(pool) {
+  const words = document.createElement("p");
+  const [name, free] = [".side", ".small"].map((it) => pool.querySelector(it)?.textContent ?? "");
+  words.append(element("b", "", name), ` ${free}`);
+  Object.assign(words, { className: "free", ariaHidden: "true", hidden: true });
+  return words;
+}
+
+// Once the frame of a pool is seen, scrolls it to the pool's last page, unless it was scrolled elsewhere. Where what
+// stands before the pool is out of sight then, its words are seen above.
+function showPoolsEnd(frame, words, lastCells, isScrolled) {
+  const [pool] = frame.children;
+  const observer = new ResizeObserver(() => {
+    if (!frame.clientWidth || !lastCells) return;
+    observer.disconnect();
+    const { width } = pool.getBoundingClientRect();
+    const end = (lastCells.x.baseVal.value + lastCells.width.baseVal.value + EDGE) / pool.viewBox.baseVal.width;
+    words.hidden = end * width <= frame.clientWidth;
+    if (!isScrolled) frame.scrollLeft = (end - 1) * width;
+  });
+  observer.observe(frame);
+}
+
 // A frame around elements, which can be scrolled by keys.
 function frameOf(label, elements) {
   const frame = document.createElement("div");
@@ -64,12 +104,21 @@ export class Picture {
   show(style, parts, legend, isBeside = false) {
     if (style !== this.#styleText) this.#restyle(style, legend);
     const before = isBeside ? partsIn(this.#figure) : undefined;
-    const scrolled = [...this.#figure.querySelectorAll(".wide")].map((frame) => frame.scrollLeft);
+    const frames = this.#frames;
+    const scrolled = frames.map((frame) => frame.scrollLeft);
+    const focused = frames.findIndex((frame) => frame.contains(this.#tree.activeElement));
     this.#figure.replaceChildren(...copies(parts));
     unlink(this.#tree);
     const memory = this.#figure.querySelector(".memory");
     if (memory) this.#frame(memory, scrolled);
+    this.#frames[focused]?.focus({ preventScroll: true });
+    const chart = this.#figure.querySelector("aside > svg");
+    if (chart) this.#figure.prepend(headsOf(chart));
     if (before) moveParts(this.#figure, before);
+  }
+
+  get #frames() {
+    return [...this.#figure.querySelectorAll(".wide")];
   }
 
   // Shows nothing any more.
@@ -81,7 +130,10 @@ export class Picture {
   #frame(memory, scrolled) {
     const [pool, ...others] = memory.children;
     const frames = [frameOf("Pool of pages", [pool]), frameOf("Slots and module area", others)];
-    memory.replaceChildren(...frames);
+    const words = wordsOfPool(pool);
+    frames[0].classList.add("pool");
+    memory.replaceChildren(words, ...frames);
+    showPoolsEnd(frames[0], words, [...this.#figure.querySelectorAll("#grid .cells")].at(-1), scrolled[0]);
     frames.forEach((frame, at) => {
       if (scrolled[at]) frame.scrollLeft = scrolled[at];
     });

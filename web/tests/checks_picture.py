@@ -24,6 +24,21 @@ FRAMES = f"[...{TREE}.querySelectorAll('.wide')]"
 RIGHT = f"""(([frame]) => Math.abs(frame.querySelector('svg').getBoundingClientRect().right
   - frame.getBoundingClientRect().right))({FRAMES})"""
 
+# How far the last page of the pool, which is the module area's, is out of its frame's sight at either side; and the
+# words above the pool, where they are seen.
+POOLS_END = f"""(([frame], words) => [
+  ((cell, seen) => Math.round(Math.max(0, seen.left - cell.left, cell.right - seen.right)))(
+    frame.querySelector('.cell.m').getBoundingClientRect(), frame.getBoundingClientRect()),
+  words.checkVisibility() ? words.textContent : ''])({FRAMES}, {TREE}.querySelector('.free'))"""
+CHART = "document.querySelector('#chart').shadowRoot"
+# What of the names above the chart is told to those who see it: each one, whether the pane has it in sight, and how far
+# it is from the middle of its task's line.
+NAMES_SEEN = f"""((pane, lives) => [...{CHART}.querySelectorAll('.heads text')].map((name, at) =>
+  ((place) => [name.textContent, place.top > pane.top - 1 && place.bottom < pane.top + 60 && place.width > 0,
+    Math.round(Math.abs((place.left + place.right) / 2 - lives[at].getBoundingClientRect().left))])(
+  name.getBoundingClientRect())))(document.querySelector('#messages').getBoundingClientRect(),
+  [...{CHART}.querySelectorAll('aside .life')])"""
+
 
 def show_step(page):
     """Shows a step at which some blocks are there, and holes."""
@@ -65,6 +80,58 @@ def check_scrolled(bench):
         for _ in range(2):
             page.click("step")
             same(page.value(f"{FRAMES}.map((it) => it.scrollLeft)"), [-50, 40], "how far the picture is scrolled")
+
+
+def check_pools_end(bench):
+    """On a phone the last page of a pool of any size is in sight at once; where its name isn't, it stands above it."""
+    with bench.kept_page() as page:
+        for width, pages, words in ((390, 8, ""), (390, 16, "Pool 13 of 16 free"), (390, 64, "Pool 61 of 64 free"),
+                                    (390, 100, ""), (390, 300, "Pool 297 of 300 free"), (360, 20, "Pool 17 of 20 free"),
+                                    (1280, 16, ""), (1280, 300, "")):
+            page.tab.resize(width, 844)
+            page.load("hello")
+            page.set_pages(pages)
+            page.click("run")
+            page.tab.wait(lambda: page.value(POOLS_END) == [0, words], f"what isn't seen of a pool of {pages} pages "
+                          f"in {width}, and the words above it, are {page.value(POOLS_END)}")
+        page.tab.resize(390, 844)
+        page.show_pane("script")
+        page.set_pages(8)
+        page.click("back")
+        page.show_pane("memory")
+        page.tab.wait(lambda: page.value(POOLS_END) == [0, ""], "the pool isn't seen that was drawn out of sight")
+
+
+def check_names_of_chart(bench):
+    """The names above the messages stay in sight, each over its task's line, however far these are scrolled."""
+    with bench.kept_page() as page:
+        for width, height in ((1280, 720), (1024, 700), (1900, 700), (390, 844)):
+            page.tab.resize(width, height)
+            for name, names in (("lessons/small-buffer", ["writer", "reader"]), ("lessons/death", ["task 1", "b"])):
+                page.load(name)
+                page.click("run")
+                page.show_pane("messages")
+                for place in ("0", "10000"):
+                    page.value(f"document.querySelector('#messages').scrollTop = {place}")
+                    same(page.value(NAMES_SEEN), [[it, True, 0] for it in names],
+                         f"the names in {name} at {width} by {height}, scrolled to {place}")
+        same(page.value(f"[...{CHART}.querySelectorAll('.heads')].map((it) => it.ariaHidden)"), ["true"],
+             "whether the names are told twice")
+        page.value(f"document.querySelector('#messages').scrollTop = 0")
+        page.load("hello")
+        page.click("run")
+        same(page.value(f"{CHART}.querySelectorAll('.heads').length"), 0, "the names where there are no messages")
+
+
+def check_frame_keeps_focus(bench):
+    """A frame of the picture that is being scrolled by keys has the focus still behind a step by a key."""
+    with bench.kept_page() as page:
+        show_step(page)
+        for name in ("Pool of pages", "Slots and module area"):
+            page.value(f"{FRAMES}.find((it) => it.ariaLabel === '{name}').focus()")
+            for key in (("F8",), ("F8", "Shift")):
+                page.tab.key(*key)
+                same(page.value(f"{TREE}.activeElement?.ariaLabel"), name, f"what has the focus behind {key}")
 
 
 def check_map_or_picture(bench):
