@@ -13,6 +13,9 @@ FOCUSED = "document.activeElement"
 TOP_OF_FOCUSED = f"(({FOCUSED}.shadowRoot?.activeElement ?? {FOCUSED}).getBoundingClientRect().top)"
 # How much of what stands in an element is cut off below.
 CUT_OFF = "((it) => it.scrollHeight - it.clientHeight)(document.querySelector('%s'))"
+# How many lines of a box are seen, and what part of the next one.
+LINES_SEEN = """((box) => ((seen) => [Math.floor(seen + 0.1), Number((seen - Math.floor(seen)).toFixed(2))])(
+  box.clientHeight / box.lastElementChild.getBoundingClientRect().height))"""
 # The least contrast of a control's edge, and of the line around what has the focus, to what is behind it.
 LEAST_CONTRAST_OF_EDGES = 3
 # Of what has the focus the colours of its edge and of the line around it, and the colour of the page around both.
@@ -72,6 +75,24 @@ def check_side_by_side(bench):
         for name in ("#command", "#step", "#lines .current", "#shown", "#slider"):
             found = edges(page, name)
             holds(found["top"] >= 0 and found["bottom"] <= 640, f"{name} isn't in sight")
+
+
+def check_more_is_told(bench):
+    """Where more is told of a step than there is room for, a line is seen in part: so it shows that there is more."""
+    with bench.kept_page() as page:
+        for width, height, room in ((1280, 720, 3), (390, 844, 2)):
+            page.tab.resize(width, height)
+            page.load("eight-transfers")
+            page.click("run")
+            for name in ("changes", "shown"):
+                page.value(f"""(() => {{ const box = document.querySelector('#{name}');
+                  box.replaceChildren(...Array.from({{ length: 9 }}, (_, at) => Object.assign(
+                    document.createElement(box.localName === 'ul' ? 'li' : 'div'), {{ textContent: 'line ' + at }})));
+                  box.hidden = false; box.classList.remove('still') }})()""")
+                whole, part = page.value(f"{LINES_SEEN}(document.querySelector('#{name}'))")
+                holds(whole >= room and 0.3 < part < 0.7, f"of {name} at {width} {whole} lines and {part} are seen")
+            page.click("back")
+            page.click("step")
 
 
 def check_low_window(bench):
