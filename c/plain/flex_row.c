@@ -8,7 +8,6 @@
 #include "flex_row.h"
 #include "os_heap.h"
 
-#include <stdlib.h>
 #include <string.h>
 
 enum { START = 0x8000, HEAP = 256, HEADER = 8, WORD = 4, BASE = 8, END = 12, FIRST_PAGE_HEAP = 3840 };
@@ -43,15 +42,6 @@ size_t flex_row_pages(const struct flex_row *row)
     return pages_for(length(row));
 }
 
-/* The index of the anchor's block, and `count` where it has none. */
-static size_t find(const struct flex_row *row, uint32_t anchor)
-{
-    size_t i = 0;
-    while (i < row->count && row->blocks[i].anchor != anchor)
-        i++;
-    return i;
-}
-
 static size_t place_of(const struct flex_row *row, size_t index)
 {
     size_t place = HEAP + row->heap_len + HEADER;
@@ -69,9 +59,7 @@ static bool fits(const struct flex_row *row, size_t from, size_t to)
 
 void flex_row_end(struct flex_row *row)
 {
-    for (size_t i = 0; i < row->count; i++)
-        free(row->blocks[i].bytes);
-    row->count = 0;
+    row_block_end(row->blocks, &row->count);
 }
 
 void flex_row_start(struct flex_row *row, size_t len)
@@ -83,34 +71,16 @@ void flex_row_start(struct flex_row *row, size_t len)
     os_heap_init(row->heap, FIRST_PAGE_HEAP);
 }
 
-/* Gives a block other bytes: `keep` of the old ones, `by` zeros, and the old ones from `from` on. */
-static void remake(struct flex_row_block *block, size_t keep, size_t by, size_t from)
-{
-    size_t rest = block->size - from;
-    uint8_t *bytes = calloc(keep + by + rest + 1, 1);
-    if (!bytes)
-        abort();
-    if (block->bytes) {
-        memcpy(bytes, block->bytes, keep);
-        memcpy(bytes + keep + by, block->bytes + from, rest);
-    }
-    free(block->bytes);
-    block->bytes = bytes;
-    block->size = keep + by + rest;
-}
-
 uint32_t flex_row_alloc(struct flex_row *row, uint32_t anchor, size_t n, size_t *place)
 {
     if (anchor >= ROW_ANCHORS)
         return VF_BAD_ANCHOR;
-    if (find(row, anchor) < row->count)
+    if (row_block_find(row->blocks, row->count, anchor) < row->count)
         return VF_ANCHOR_IN_USE;
     if (!fits(row, 0, n))
         return VF_NO_ROOM;
     *place = place_of(row, row->count);
-    struct flex_row_block *block = &row->blocks[row->count++];
-    *block = (struct flex_row_block){anchor, 0, NULL};
-    remake(block, 0, n, 0);
+    row_block_add(row->blocks, &row->count, anchor, n);
     return VF_OK;
 }
 
@@ -119,7 +89,7 @@ static uint32_t found(const struct flex_row *row, uint32_t anchor, size_t *index
 {
     if (anchor >= ROW_ANCHORS)
         return VF_BAD_ANCHOR;
-    *index = find(row, anchor);
+    *index = row_block_find(row->blocks, row->count, anchor);
     return *index < row->count ? VF_OK : VF_NO_BLOCK;
 }
 
@@ -129,9 +99,7 @@ uint32_t flex_row_free(struct flex_row *row, uint32_t anchor)
     uint32_t status = found(row, anchor, &i);
     if (status != VF_OK)
         return status;
-    free(row->blocks[i].bytes);
-    row->count--;
-    memmove(row->blocks + i, row->blocks + i + 1, (row->count - i) * sizeof *row->blocks);
+    row_block_remove(row->blocks, &row->count, i);
     return VF_OK;
 }
 
@@ -159,13 +127,10 @@ uint32_t flex_row_extend(struct flex_row *row, uint32_t anchor, size_t n)
     uint32_t status = found(row, anchor, &i);
     if (status != VF_OK)
         return status;
-    struct flex_row_block *block = &row->blocks[i];
+    struct row_block *block = &row->blocks[i];
     if (!fits(row, weight(block->size), n))
         return VF_NO_ROOM;
-    if (n < block->size)
-        block->size = n;
-    else
-        remake(block, block->size, n - block->size, block->size);
+    row_block_resize(block, n);
     return VF_OK;
 }
 
@@ -175,13 +140,13 @@ uint32_t flex_row_midextend(struct flex_row *row, uint32_t anchor, size_t offset
     uint32_t status = found(row, anchor, &i);
     if (status != VF_OK)
         return status;
-    struct flex_row_block *block = &row->blocks[i];
-    if (offset > block->size || by < -(ptrdiff_t)offset)
+    struct row_block *block = &row->blocks[i];
+    if (!row_block_has(block, offset, by))
         return VF_BAD_RANGE;
     size_t more = by > 0 ? (size_t)by : 0;
     if (more > row->most_pages * ROW_PAGE || (more && !fits(row, weight(block->size), block->size + more)))
         return VF_NO_ROOM;
-    remake(block, by < 0 ? offset - (size_t)-by : offset, more, offset);
+    row_block_midextend(block, offset, by);
     return VF_OK;
 }
 
@@ -266,7 +231,7 @@ bool flex_row_is(const struct flex_row *row, const uint8_t *memory, const struct
     if (slot->pages != flex_row_pages(row) || slot->budge != row->budge || !os_heap_is_same(row->heap, memory + HEAP))
         return false;
     for (size_t i = 0; i < row->count; i++) {
-        const struct flex_row_block *block = &row->blocks[i];
+        const struct row_block *block = &row->blocks[i];
         size_t place = place_of(row, i);
         const uint8_t *header = memory + place - HEADER;
         if (word(header) != START + WORD * block->anchor || word(header + WORD) != block->size)

@@ -6,7 +6,7 @@
 #ifndef FLEX_ROW_H
 #define FLEX_ROW_H
 
-#include "vervainfile.h"
+#include "row_block.h"
 
 enum { ROW_ANCHORS = 64, ROW_PAGE = 4096, ROW_HEAP_ROOM = 1 << 18 };
 
@@ -14,11 +14,7 @@ struct flex_row {
     size_t most_pages; /* how many pages lie at the slot */
     bool budge;
     size_t count;
-    struct flex_row_block {
-        uint32_t anchor;
-        size_t size;
-        uint8_t *bytes;
-    } blocks[ROW_ANCHORS]; /* from below */
+    struct row_block blocks[ROW_ANCHORS]; /* from below */
     size_t heap_len;
     uint8_t heap[ROW_HEAP_ROOM];
 };

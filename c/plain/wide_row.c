@@ -6,7 +6,6 @@
  */
 #include "wide_row.h"
 
-#include <stdlib.h>
 #include <string.h>
 
 enum { WORDS = 8, EIGHT = 8 };
@@ -18,8 +17,7 @@ static size_t weight(size_t n)
 
 void wide_row_end(struct wide_row *row)
 {
-    while (row->count)
-        free(row->blocks[--row->count].bytes);
+    row_block_end(row->blocks, &row->count);
 }
 
 void wide_row_start(struct wide_row *row, size_t len, uint32_t anchors)
@@ -32,10 +30,7 @@ void wide_row_start(struct wide_row *row, size_t len, uint32_t anchors)
 
 size_t wide_row_find(const struct wide_row *row, uint32_t anchor)
 {
-    size_t index = 0;
-    while (index < row->count && row->blocks[index].anchor != anchor)
-        index++;
-    return index;
+    return row_block_find(row->blocks, row->count, anchor);
 }
 
 size_t wide_row_place_of(const struct wide_row *row, size_t index)
@@ -57,22 +52,6 @@ static bool fits(const struct wide_row *row, size_t from, size_t n)
     return n < row->len && weight(n) <= from + wide_row_room(row);
 }
 
-/* Gives a block other bytes: `keep` of the old ones, `by` zeros, and the old ones from `from` on. */
-static void remake(struct wide_row_block *block, size_t keep, size_t by, size_t from)
-{
-    size_t rest = block->size - from;
-    uint8_t *bytes = (uint8_t *)calloc(keep + by + rest + 1, 1);
-    if (!bytes)
-        abort();
-    if (block->bytes) {
-        memcpy(bytes, block->bytes, keep);
-        memcpy(bytes + keep + by, block->bytes + from, rest);
-    }
-    free(block->bytes);
-    block->bytes = bytes;
-    block->size = keep + by + rest;
-}
-
 /* Why there is no such block, or VF_OK and its index. */
 static uint32_t found(const struct wide_row *row, uint32_t anchor, size_t *index)
 {
@@ -91,9 +70,7 @@ uint32_t wide_row_alloc(struct wide_row *row, uint32_t anchor, size_t n, size_t 
     if (!fits(row, 0, n))
         return VF_NO_ROOM;
     *place = wide_row_place_of(row, row->count);
-    struct wide_row_block *block = &row->blocks[row->count++];
-    *block = (struct wide_row_block){anchor, 0, NULL};
-    remake(block, 0, n, 0);
+    row_block_add(row->blocks, &row->count, anchor, n);
     return VF_OK;
 }
 
@@ -103,9 +80,7 @@ uint32_t wide_row_free(struct wide_row *row, uint32_t anchor)
     uint32_t status = found(row, anchor, &i);
     if (status != VF_OK)
         return status;
-    free(row->blocks[i].bytes);
-    row->count--;
-    memmove(row->blocks + i, row->blocks + i + 1, (row->count - i) * sizeof *row->blocks);
+    row_block_remove(row->blocks, &row->count, i);
     return VF_OK;
 }
 
@@ -133,13 +108,10 @@ uint32_t wide_row_extend(struct wide_row *row, uint32_t anchor, size_t n)
     uint32_t status = found(row, anchor, &i);
     if (status != VF_OK)
         return status;
-    struct wide_row_block *block = &row->blocks[i];
+    struct row_block *block = &row->blocks[i];
     if (!fits(row, weight(block->size), n))
         return VF_NO_ROOM;
-    if (n < block->size)
-        block->size = n;
-    else
-        remake(block, block->size, n - block->size, block->size);
+    row_block_resize(block, n);
     return VF_OK;
 }
 
@@ -149,13 +121,13 @@ uint32_t wide_row_midextend(struct wide_row *row, uint32_t anchor, size_t offset
     uint32_t status = found(row, anchor, &i);
     if (status != VF_OK)
         return status;
-    struct wide_row_block *block = &row->blocks[i];
-    if (offset > block->size || by < -(ptrdiff_t)offset)
+    struct row_block *block = &row->blocks[i];
+    if (!row_block_has(block, offset, by))
         return VF_BAD_RANGE;
     size_t more = by > 0 ? (size_t)by : 0;
     if (more > row->len || (more && !fits(row, weight(block->size), block->size + more)))
         return VF_NO_ROOM;
-    remake(block, by < 0 ? offset - (size_t)-by : offset, more, offset);
+    row_block_midextend(block, offset, by);
     return VF_OK;
 }
 

@@ -5,7 +5,7 @@
 #ifndef WIDE_ROW_H
 #define WIDE_ROW_H
 
-#include "vervainfile.h"
+#include "row_block.h"
 
 enum { WIDE_ROW_MOST = 4096 };
 
@@ -13,11 +13,7 @@ struct wide_row {
     size_t len, base; /* how many bytes lie at the slot, and where its blocks begin */
     uint32_t anchors;
     size_t count;
-    struct wide_row_block {
-        uint32_t anchor;
-        size_t size;
-        uint8_t *bytes;
-    } blocks[WIDE_ROW_MOST]; /* from below */
+    struct row_block blocks[WIDE_ROW_MOST]; /* from below */
 };
 
 /* A row without blocks. The first forgets a row that was there. */

@@ -139,7 +139,7 @@ static bool is_row(void)
         vf_flex_wide_places(memory, row.len, &slot, places, row.anchors + 9) != VF_OK)
         return false;
     for (size_t i = 0; i < row.count; place += row.blocks[i++].size / 8 * 8 + 8) {
-        const struct wide_row_block *it = &row.blocks[i];
+        const struct row_block *it = &row.blocks[i];
         if (word_at(8 * it->anchor) != place || word_at(8 * it->anchor + 4) != it->size ||
             memcmp(memory + place, it->bytes, it->size) || places[it->anchor] != place)
             return false;
