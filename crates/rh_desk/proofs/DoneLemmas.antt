@@ -20,7 +20,7 @@ use Rattle.rh_session.specs.declared.status.Status.TheVariants as status
 use Rattle.clap.specs.Words.{Row, Text, fault_of, subcommand_of}
 use Rattle.clap.specs.declared.error.kind.ErrorKind.TheVariants as kind
 use Rattle.rh_desk.specs.CommandLine.{program_words}
-use Rattle.rh_desk.specs.Done.{CheckOver, ExplainOver, HelpEnds}
+use Rattle.rh_desk.specs.Done.{CheckOver, ExplainOver}
 use Rattle.rh_desk.specs.Done.{FileOver, IsWhole, MapOver, RequestEnds, RunEnds, RunOver, SheetOver, ShownOver, Streams, Untouched}
 use Rattle.rh_desk.specs.Done.{WordsEnd, line_as, status_as}
 use Rattle.rh_desk.specs.ProgramEnd.{ending_of}
@@ -35,8 +35,6 @@ use Rattle.rh_desk.specs.declared.request.ImageKind.{ImageKind}
 use Rattle.rh_desk.specs.declared.request.Request.{Request}
 use Rattle.rh_desk.specs.declared.request.Shown.{Shown}
 use Rattle.rh_explained.specs.Explained.{Explained, ExplainedSoFar, ExplainedUntil}
-use Rattle.rh_explained.specs.Help.{command_help}
-use Rattle.rh_explained.specs.declared.command_kind.CommandKind.{CommandKind}
 use Rattle.rh_pictures.specs.Mapped.{Mapped, MappedSoFar, MappedUntil}
 use Rattle.rh_figure.specs.Map.{place}
 use Rattle.rh_pictures.specs.Painted.{Painted, PaintedSoFar, PaintedUntil}

@@ -1,5 +1,5 @@
 -- Worked bad words, lost files and inputs: what is wrong with each, and what is told.
-use Rattle.std.proofs.Common.{◌≡◌, refl, ap, ◌∙◌, sym, subst, arith, ℕ, ◌+◌, ◌<◌, List, [], ◌∷◌, ◌++◌, length, codes, Option, Some}
+use Rattle.std.proofs.Common.{◌≡◌, refl, ap, ◌∙◌, sym, subst, arith, ℕ, ◌+◌, ◌<◌, List, [], ◌∷◌, length, codes, Option, Some}
 use Rattle.std.specs.declared.io.ErrorKind.TheVariants as kind
 use Rattle.rh_defs.proofs.Common.{append-nil, length-append, length-replicate}
 use Rattle.rh_defs.specs.Pieces.{zeros}

@@ -1,5 +1,5 @@
 -- Why a word or a file can't be used: the line below the one that names it.
-use Rattle.std.specs.Prelude.{ℕ, ◌==◌, ◌<◌, not, Bool, if◌then◌else◌, List, codes, length, Option, IfSome, ⊤}
+use Rattle.std.specs.Prelude.{ℕ, ◌==◌, ◌<◌, not, if◌then◌else◌, List, codes, length, Option, IfSome, ⊤}
 use Rattle.std.specs.List.{position_or_len}
 use Rattle.std.specs.declared.io.ErrorKind.{ErrorKind}
 use Rattle.std.specs.declared.io.ErrorKind.TheVariants as kind
