@@ -1,30 +1,14 @@
 //! The memory of a native run.
 
 ghost use Rattle.std.specs.Prelude.{◌≡◌, ◌≤◌, IfOk};
-ghost use Rattle.rh_defs.specs.Memory.{fresh};
 ghost use Rattle.rh_defs.specs.Runs.{start};
 ghost use Rattle.rh_defs.specs.declared.sizes.TheConstants.{MAX_PAGES, MIN_PAGES};
-ghost use Rattle.rh_pages.specs.Paged.{paged_memory};
 
 use rh_defs::Files;
-use rh_heap_index::IndexedStore;
-use rh_pages::PagedStore;
+use rh_heap_index::{PageStore, page_store};
 use rh_session::Buffers;
 use rh_tasks::World;
 use std::alloc::{AllocError, Global};
-
-/// Scattered pages, with a map beside each heap.
-pub type PageStore = IndexedStore<PagedStore>;
-
-/// A fresh store of 8 to 1,024 pages.
-fn page_store(alloc: Global, pages: u32) -> Result<PageStore, AllocError>
-    requires least { MIN_PAGES ≤ pages }
-    requires most { pages ≤ MAX_PAGES }
-    ensures { IfOk result (λ store. paged_memory store ≡ fresh pages) }
-{
-    let store = PagedStore::new(alloc, pages as usize)?;
-    IndexedStore::new(alloc, store)
-}
 
 /// The first desk over a fresh store of 8 to 1,024 pages, with these files, and the buffers of a run. All memory of a
 /// run is taken here: AllocError where it is refused.

@@ -1,39 +1,21 @@
 //! A desk that takes lines.
-ghost use Rattle.std.specs.Prelude.{◌≡◌, ◌≤◌, ◌-◌, ◌^◌, length, min, true, Some, Ok, IfOk};
+ghost use Rattle.std.specs.Prelude.{◌≡◌, ◌-◌, ◌^◌, length, min, true, Some, Ok};
 ghost use Rattle.rh_defs.specs.Desk.{Desk};
-ghost use Rattle.rh_defs.specs.Memory.{fresh};
 ghost use Rattle.rh_defs.specs.Order.{IsReordered};
 ghost use Rattle.rh_defs.specs.Range.{in_range};
 ghost use Rattle.rh_defs.specs.Script.{line_desk, line_text, meaning_desk, meaning_text};
-ghost use Rattle.rh_defs.specs.declared.sizes.TheConstants.{MAX_PAGES, MIN_PAGES};
-ghost use Rattle.rh_pages.specs.Paged.{paged_memory};
 ghost use Rattle.vf_desk.specs.Said.{said_text};
 ghost use Rattle.vf_desk.specs.Console.{Prints};
 
 use crate::said::Said;
 use rh_defs::{Command, Question};
-use rh_heap_index::IndexedStore;
+use rh_heap_index::PageStore;
 use rh_lines::{WholeText, read_line};
-use rh_pages::PagedStore;
 use rh_tasks::World;
-use std::alloc::{AllocError, Global};
 use std::mem;
 
-/// Scattered pages, with a map beside each heap.
-pub type PageStore = IndexedStore<PagedStore>;
-
-/// A world over such pages.
+/// A world over scattered pages.
 pub type PagedWorld = World<PageStore>;
-
-/// A fresh store of 8 to 1,024 pages: AllocError where memory is refused. No other call takes memory.
-pub fn page_store(alloc: Global, pages: u32) -> Result<PageStore, AllocError>
-    requires least { MIN_PAGES ≤ pages }
-    requires most { pages ≤ MAX_PAGES }
-    ensures { IfOk result (λ store. paged_memory store ≡ fresh pages) }
-{
-    let store = PagedStore::new(alloc, pages as usize)?;
-    IndexedStore::new(alloc, store)
-}
 
 /// A world, and what the last line was answered.
 #[derive(Drop)]

@@ -5,7 +5,7 @@ ghost use Rattle.vf_desk.specs.Inner.FirstConsole.{first_console};
 ghost use Rattle.vf_desk.specs.Opening.{Adds, Opens, file_status, opening_status};
 ghost use Rattle.rh_defs.specs.declared.sizes.TheConstants.{LONGEST_FILE};
 
-use crate::console::{Console, PagedWorld, page_store};
+use crate::console::{Console, PagedWorld};
 use crate::desk::VfDesk;
 use crate::forms::name_of;
 use crate::open_desk::OpenDesk;
@@ -13,6 +13,7 @@ use crate::said::Said;
 use crate::status::{BAD_ARGUMENT, BAD_LENGTH, FILE_EXISTS, NO_MEMORY, OK, OPEN};
 use rh_defs::sizes::{LONGEST_FILE, MAX_PAGES, MIN_PAGES};
 use rh_defs::{Files, Handle, Name, Ref};
+use rh_heap_index::page_store;
 use rh_tasks::World;
 use std::alloc::{AllocError, Global};
 use std::mem;
