@@ -36,7 +36,7 @@ of_options verb (w ∷ ws) = option_or (of_option verb w) (of_options verb ws)
 abbrev pub hint_of : ErrorKind → List (List ℕ) → Option Hint
 hint_of kind.InvalidSubcommand words =
     Some (if not (bytes_eq (nth_word words 2) (codes "help")) then RunScript
-        else if nat_lt 3 (length words) then OneOfHelp else CommandsOfHelp)
+    else if nat_lt 3 (length words) then OneOfHelp else CommandsOfHelp)
 hint_of kind.UnknownArgument words =
     if is_option (nth_word words 2) then Some OptionBehind else of_options (nth_word words 2) words
 hint_of k words = None
