@@ -94,7 +94,7 @@ edits-none world = record { said_is = λ d seen. refl; desk = λ d seen. seen; r
 module _ (open_desk : OpenDesk) {old : Console} (is : open_desk.console ≡ Some old) {edit : Option Edit} {world : Shown} {said : CallOutcome}
     (edits : Edits edit old.world world said) where
   abbrev console_now : Console
-  console_now = record { world = world; said = old.said }
+  console_now = record { world = world; said = old.said; command = old.command }
 
   abbrev station_now : OpenDesk
   station_now = record { files = open_desk.files; console = Some console_now }
@@ -118,7 +118,8 @@ module _ (open_desk : OpenDesk) {old : Console} (is : open_desk.console ≡ Some
 
   pub edited-refused : status_of said ≢ 0 → station_now ≡ open_desk
   edited-refused bad =
-      let with_world : Shown → OpenDesk = λ w. record { files = open_desk.files; console = Some (record { world = w; said = old.said }) } in
+      let with_world : Shown → OpenDesk = λ w.
+      record { files = open_desk.files; console = Some (record { world = w; said = old.said; command = old.command }) } in
       let with_console : Option Console → OpenDesk = λ h. record { files = open_desk.files; console = h } in
       ap with_world (edits.refused bad) ∙ ap with_console (sym is)
 

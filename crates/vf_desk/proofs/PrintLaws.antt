@@ -1,5 +1,5 @@
 -- What lent bytes have of a text that was printed into them.
-use Rattle.std.proofs.Common.{◌≡◌, ℕ, ◌≤◌, List, [], ◌++◌, length, Some, None, Result, Ok, Err, sym, ap, ◌∙◌, arith, take_all}
+use Rattle.std.proofs.Common.{◌≡◌, ℕ, ◌≤◌, List, [], ◌++◌, length, Some, None, Result, Ok, Err, refl, sym, ap, ◌∙◌, arith, take, take_all, ◌∷◌}
 use Rattle.std.specs.Prelude.{nat_le, drop, true, if◌then◌else◌}
 use borrow.Author.Tests.{tests}
 use Rattle.rh_lines.proofs.TextLemmas.{writes_all, wrote}
@@ -14,6 +14,10 @@ pub record Printed (old new : WholeText) (text : List ℕ) : Type 0 where
   pub before : before_of new ≡ before_of old
   pub text_is : whole_text new ≡ text
 
+-- what is the same as these bytes
+pub bytes-are : {now bytes all : List ℕ} → bytes ≡ all → now ≡ bytes → now ≡ all
+bytes-are are is = is ∙ are
+
 -- whatever printing it answers, as no write fails
 pub printed : {E : Type 0} (old new : WholeText) (r : Result Unit E) (text : List ℕ) → whole_text old ≡ [] → Puts (output_of old) (output_of new) r text
     → Printed old new text
@@ -25,6 +29,16 @@ printed old new (Err e) text none puts = absurd (writes_all old new puts.err)
 -- a text in bytes that have room for it
 pub filled-whole : (text old : List ℕ) → length text ≤ length old → filled text old ≡ text ++ drop (length text) old
 filled-whole text old fit = ap (λ l. l ++ drop (length text) old) (take_all (length old) text fit)
+
+take-front : (xs ys : List ℕ) → take (length xs) (xs ++ ys) ≡ xs
+take-front [] [] = refl
+take-front [] (y ∷ ys) = refl
+take-front (x ∷ xs) ys = ap (λ l. x ∷ l) (take-front xs ys)
+
+-- as many of those bytes as the text has
+pub held-text : {text now : List ℕ} {n : ℕ} (old : List ℕ) → now ≡ filled text old → n ≡ length text → length text ≤ length old → take n now ≡ text
+held-text {text} {now} {n} old is all fit =
+    ap (take n) (is ∙ filled-whole text old fit) ∙ ap (λ k. take k (text ++ drop (length text) old)) all ∙ take-front text (drop (length text) old)
 
 -- what is answered of a text that has room
 pub prints-some : {text lent now bytes : List ℕ} {n : ℕ} → length text ≤ length lent → bytes ≡ text ++ drop (length text) lent

@@ -75,7 +75,7 @@ stays-rest held = record { files = refl; said = refl }
 module _ (open_desk : OpenDesk) {old : Console} (is : open_desk.console ≡ Some old) {command : Option Command} {world : Shown} {said : CallOutcome}
     (steps : Steps command old.world world said) where
   abbrev pub console_now : Console
-  console_now = record { world = world; said = old.said }
+  console_now = record { world = world; said = old.said; command = old.command }
 
   abbrev pub station_now : OpenDesk
   station_now = record { files = open_desk.files; console = Some console_now }
@@ -99,7 +99,8 @@ module _ (open_desk : OpenDesk) {old : Console} (is : open_desk.console ≡ Some
 
   done-same : world ≡ old.world → station_now ≡ open_desk
   done-same same =
-      let with_world : Shown → OpenDesk = λ w. record { files = open_desk.files; console = Some (record { world = w; said = old.said }) } in
+      let with_world : Shown → OpenDesk = λ w.
+      record { files = open_desk.files; console = Some (record { world = w; said = old.said; command = old.command }) } in
       let with_console : Option Console → OpenDesk = λ h. record { files = open_desk.files; console = h } in
       ap with_world same ∙ ap with_console (sym is)
 

@@ -4,6 +4,7 @@ ghost use Rattle.rh_defs.specs.Desk.{Desk};
 ghost use Rattle.rh_defs.specs.Order.{IsReordered};
 ghost use Rattle.rh_defs.specs.Range.{in_range};
 ghost use Rattle.rh_defs.specs.Script.{line_desk, line_text, meaning_desk, meaning_text};
+ghost use Rattle.rh_lines.specs.WholeText.{filled};
 ghost use Rattle.vf_desk.specs.Said.{said_text};
 ghost use Rattle.vf_desk.specs.Console.{Prints};
 
@@ -17,11 +18,18 @@ use std::mem;
 /// A world over scattered pages.
 pub type PagedWorld = World<PageStore>;
 
-/// A world, and what the last line was answered.
+/// The reply to any other command than a question has at most so many bytes: those of an event with all its words.
+const LONGEST_REPLY: usize = 96;
+
+/// So many bytes of a list are printed before they are known to have room: the text of most lists.
+const MOST_HELD: usize = 1_000;
+
+/// A world, what the last line was answered, and the place of each line's command.
 #[derive(Drop)]
 pub struct Console {
     pub world: PagedWorld,
     pub said: Said,
+    pub command: Command,
 }
 
 impl Console {
@@ -32,38 +40,56 @@ impl Console {
         ensures said { (d : Desk) → IsReordered d self.old.world.desk →
             said_text (line_desk d line.now) self.new.said ≡ line_text d line.now }
     {
-        let mut command = Command::Ask(Question::Areas);
-        self.said = match read_line(line, &mut command) {
-            Ok(false) => Said::Nothing,
-            Ok(true) => self.carry_out(&mut command),
-            Err(fault) => Said::Fault(fault),
-        };
-    }
-
-    /// Does a command, and answers what is kept of its reply. A question changes nothing: it is taken out, and kept.
-    fn carry_out(&mut self, command: &mut Command) -> Said
-        requires { in_range command.old ≡ true }
-        ensures desk { (d : Desk) → IsReordered d self.old.world.desk →
-            IsReordered (meaning_desk d (Ok (Some command.old))) self.new.world.desk }
-        ensures text { (d : Desk) → IsReordered d self.old.world.desk →
-            said_text (meaning_desk d (Ok (Some command.old))) result ≡ meaning_text d (Ok (Some command.old)) }
-    {
-        match command {
-            Command::Ask(question) => Said::Told(mem::replace(question, Question::Areas)),
-            _ => Said::Reply(self.world.apply(command)),
+        match read_line(line, &mut self.command) {
+            Ok(false) => self.said = Said::Nothing,
+            Ok(true) => self.carry_out(),
+            Err(fault) => self.said = Said::Fault(fault),
         }
     }
 
-    /// How many bytes the text has of what the last line was answered, over the desk as it is now; 2^64 - 1 where it
-    /// has more.
-    fn length(&self) -> usize
-        ensures { (d : Desk) → IsReordered d self.now.world.desk →
-            result ≡ min (length (said_text d self.now.said)) (2 ^ 64 - 1) }
+    /// Does the command that was read, and keeps its reply. A question changes nothing: it is taken out, and kept.
+    fn carry_out(&mut self)
+        requires { in_range self.old.command ≡ true }
+        ensures desk { (d : Desk) → IsReordered d self.old.world.desk →
+            IsReordered (meaning_desk d (Ok (Some self.old.command))) self.new.world.desk }
+        ensures text { (d : Desk) → IsReordered d self.old.world.desk →
+            said_text (meaning_desk d (Ok (Some self.old.command))) self.new.said
+            ≡ meaning_text d (Ok (Some self.old.command)) }
     {
-        let mut nowhere = [];
-        let mut text = WholeText::new(&mut nowhere);
+        match &mut self.command {
+            Command::Ask(question) => {
+                self.said = Said::Told(mem::replace(question, Question::Areas));
+            }
+            _ => self.said = Said::Reply(self.world.apply(&self.command)),
+        }
+    }
+
+    /// Puts as much as has room of the text of what the last line was answered into lent bytes, over the desk as it is
+    /// now, and answers how many bytes the text has, 2^64 - 1 where it has more. What stands behind it stays.
+    fn put_text(&self, to: &mut [u8]) -> usize
+        ensures length { (d : Desk) → IsReordered d self.now.world.desk →
+            result ≡ min (length (said_text d self.now.said)) (2 ^ 64 - 1) }
+        ensures bytes { (d : Desk) → IsReordered d self.now.world.desk →
+            to.new ≡ filled (said_text d self.now.said) to.old }
+    {
+        let mut text = WholeText::new(to);
         let _done = self.said.print(&self.world, &mut text);
         text.length()
+    }
+
+    /// Does what `print` does. Where the text has room in what is held, it is printed once, and copied from there.
+    fn print_by(&self, held: &mut [u8], to: &mut [u8]) -> Option<usize>
+        ensures { (d : Desk) → IsReordered d self.now.world.desk →
+            Prints (said_text d self.now.said) to.old to.new result }
+    {
+        let length = self.put_text(held);
+        if length <= held.len() {
+            return put_whole(&held[..length], to);
+        }
+        if length > to.len() {
+            return None;
+        }
+        Some(self.put_text(to))
     }
 
     /// Puts the text of what the last line was answered into lent bytes, over the desk as it is now, and answers how
@@ -72,12 +98,27 @@ impl Console {
         ensures { (d : Desk) → IsReordered d self.now.world.desk →
             Prints (said_text d self.now.said) to.old to.new result }
     {
-        let length = self.length();
-        if length > to.len() {
-            return None;
+        if let Some(text) = self.said.fixed_text() {
+            return put_whole(text, to);
         }
-        let mut text = WholeText::new(to);
-        let _done = self.said.print(&self.world, &mut text);
-        Some(text.length())
+        if let Said::Told(_) = &self.said {
+            let mut held = [0; MOST_HELD];
+            return self.print_by(&mut held, to);
+        }
+        let mut held = [0; LONGEST_REPLY];
+        self.print_by(&mut held, to)
     }
+}
+
+/// Puts a text in place of the first of other bytes, and answers its length: None where it is longer, and then all stay
+/// as they were.
+fn put_whole(text: &[u8], to: &mut [u8]) -> Option<usize>
+    ensures { Prints text.now to.old to.new result }
+{
+    let length = text.len();
+    if length > to.len() {
+        return None;
+    }
+    to[..length].copy_from_slice(text);
+    Some(length)
 }

@@ -12,7 +12,7 @@ use crate::open_desk::OpenDesk;
 use crate::said::Said;
 use crate::status::{BAD_ARGUMENT, BAD_LENGTH, FILE_EXISTS, NO_MEMORY, OK, OPEN};
 use rh_defs::sizes::{LONGEST_FILE, MAX_PAGES, MIN_PAGES};
-use rh_defs::{Files, Handle, Name, Ref};
+use rh_defs::{Command, Files, Handle, Name, Question, Ref};
 use rh_heap_index::page_store;
 use rh_tasks::World;
 use std::alloc::{AllocError, Global};
@@ -186,6 +186,7 @@ impl OpenDesk {
             self.console = Some(Console {
                 world,
                 said: Said::Nothing,
+                command: Command::Ask(Question::Areas),
             });
         }
     }

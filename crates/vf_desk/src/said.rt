@@ -1,4 +1,5 @@
 //! What a line is answered, and its text.
+ghost use Rattle.std.specs.Prelude.{◌≡◌, IfSome};
 ghost use Rattle.rh_defs.specs.Desk.{Desk};
 ghost use Rattle.rh_defs.specs.Order.{IsReordered};
 ghost use Rattle.rh_lines.specs.Flow.{Puts};
@@ -24,6 +25,19 @@ pub enum Said {
 }
 
 impl Said {
+    /// The text of it, where it is the same whatever the desk and the numbers are.
+    #[tactic(auto, unfolding(rh_defs::specs::Text::first_line))]
+    pub fn fixed_text(&self) -> Option<&'static [u8]>
+        ensures { IfSome result (λ text. (d : Desk) → text.now ≡ said_text d self.now) }
+    {
+        match self {
+            Said::Nothing => Some(b""),
+            Said::Reply(Reply::Done) => Some(b"ok\n"),
+            Said::Reply(Reply::NoEvent) => Some(b"ok 0\n"),
+            _ => None,
+        }
+    }
+
     /// Writes the text of it over the desk after the line. Fails only where the writer failed or took none of what it
     /// was offered; a front of the text is then written.
     pub fn print<S: Store, F: NamedFiles, W: Sink>(

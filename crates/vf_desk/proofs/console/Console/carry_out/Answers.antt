@@ -18,4 +18,4 @@ returns-in_default-clause-desk c = λ d seen. (c.apply.ensures.steps d seen).1
 
 pub returns-in_default-clause-text : goal.returns-in_default-clause-text
 returns-in_default-clause-text c =
-    (answers-command c.args.self.now.world.desk c.apply.new.self.desk c.args.command.now c.apply.result c.in_default.not-Ask c.apply.ensures.steps).text
+    (answers-command c.args.self.now.world.desk c.apply.new.self.desk c.args.self.now.command c.apply.result c.in_default.not-Ask c.apply.ensures.steps).text

@@ -1,27 +1,35 @@
-use Rattle.std.proofs.Common.{Bool, ◌∙◌, ap, Ok}
+use Rattle.std.proofs.Common.{Bool, refl, ◌∙◌, ap, Ok}
 use Rattle.rh_defs.specs.Line.{Meaning}
 use Rattle.rh_lines.specs.Placed.{if_placed}
-use Rattle.vf_desk.specs.declared.console.Console.{Console}
-use Rattle.vf_desk.proofs.SaidLaws.{Answers, answers-nothing, answers-fault, answers-is, line-desk, line-said}
-use Rattle.vf_desk.proofs.console.Console.take_line.Goals.{in-Ok-false, in-Ok-true, in-Err}
+use Rattle.vf_desk.proofs.SaidLaws.{answers-nothing, answers-fault, answers-is, line-desk, line-said}
 use Rattle.vf_desk.proofs.console.Console.take_line.Goals as goal
 
--- what the line's meaning leaves
-answers : (c : goal.After-self-1)
-    → Answers (if_placed c.read_line.result c.read_line.new.command) c.args.self.now.world.desk c.match-read_line.self.world.desk c.match-read_line.self2
-answers c =
-    let placed = λ (found : Meaning Bool). if_placed found c.read_line.new.command in
-    elim c.match-read_line.branch [
-      | in-Ok-false w ↦ answers-is (ap placed (w.in-Ok-false.is ∙ ap Ok w.in-Ok-false.field-0-test)) (ap (λ (s : Console). s.world.desk) w.self-is)
-          w.self2-is (answers-nothing c.args.self.now.world.desk)
-      | in-Ok-true w ↦ answers-is (ap placed (w.in-Ok-true.is ∙ ap Ok w.in-Ok-true.field-0-test)) (ap (λ (s : Console). s.world.desk) w.self-is)
-          w.self2-is (record { desk = w.carry_out-self.ensures.desk; text = w.carry_out-self.ensures.text })
-      | in-Err w ↦ answers-is (ap placed w.in-Err.is) (ap (λ (s : Console). s.world.desk) w.self-is) w.self2-is
-          (answers-fault c.args.self.now.world.desk w.in-Err.fault)
-    ]
+pub returns-in-Ok-false-clause-desk : goal.returns-in-Ok-false-clause-desk
+returns-in-Ok-false-clause-desk c = line-desk c.args.line.now _ _ _ _ c.read_line.ensures.means
+    (answers-is (ap (λ (found : Meaning Bool). if_placed found c.read_line.new.command) (c.in-Ok-false.is ∙ ap Ok c.in-Ok-false.field-0-test)) refl refl
+    (answers-nothing c.args.self.now.world.desk))
 
-pub returns-clause-desk : goal.returns-clause-desk
-returns-clause-desk c = line-desk c.args.line.now _ _ _ _ c.read_line.ensures.means (answers c)
+pub returns-in-Ok-false-clause-said : goal.returns-in-Ok-false-clause-said
+returns-in-Ok-false-clause-said c = line-said c.args.line.now _ _ _ _ c.read_line.ensures.means
+    (answers-is (ap (λ (found : Meaning Bool). if_placed found c.read_line.new.command) (c.in-Ok-false.is ∙ ap Ok c.in-Ok-false.field-0-test)) refl refl
+    (answers-nothing c.args.self.now.world.desk))
 
-pub returns-clause-said : goal.returns-clause-said
-returns-clause-said c = line-said c.args.line.now _ _ _ _ c.read_line.ensures.means (answers c)
+pub returns-in-Ok-true-clause-desk : goal.returns-in-Ok-true-clause-desk
+returns-in-Ok-true-clause-desk c = line-desk c.args.line.now _ _ _ _ c.read_line.ensures.means
+    (answers-is (ap (λ (found : Meaning Bool). if_placed found c.read_line.new.command) (c.in-Ok-true.is ∙ ap Ok c.in-Ok-true.field-0-test)) refl refl
+    (record { desk = c.carry_out.ensures.desk; text = c.carry_out.ensures.text }))
+
+pub returns-in-Ok-true-clause-said : goal.returns-in-Ok-true-clause-said
+returns-in-Ok-true-clause-said c = line-said c.args.line.now _ _ _ _ c.read_line.ensures.means
+    (answers-is (ap (λ (found : Meaning Bool). if_placed found c.read_line.new.command) (c.in-Ok-true.is ∙ ap Ok c.in-Ok-true.field-0-test)) refl refl
+    (record { desk = c.carry_out.ensures.desk; text = c.carry_out.ensures.text }))
+
+pub returns-in-Err-clause-desk : goal.returns-in-Err-clause-desk
+returns-in-Err-clause-desk c = line-desk c.args.line.now _ _ _ _ c.read_line.ensures.means
+    (answers-is (ap (λ (found : Meaning Bool). if_placed found c.read_line.new.command) c.in-Err.is) refl refl
+    (answers-fault c.args.self.now.world.desk c.in-Err.fault))
+
+pub returns-in-Err-clause-said : goal.returns-in-Err-clause-said
+returns-in-Err-clause-said c = line-said c.args.line.now _ _ _ _ c.read_line.ensures.means
+    (answers-is (ap (λ (found : Meaning Bool). if_placed found c.read_line.new.command) c.in-Err.is) refl refl
+    (answers-fault c.args.self.now.world.desk c.in-Err.fault))
