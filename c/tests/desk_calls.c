@@ -221,6 +221,8 @@ static void opening(void)
     EXPECT(!desk.live && !desk.at);
     REFUSES(VF_BAD_ARGUMENT, vf_desk_file(&desk, NO_FORM, bytes, 1));
     REFUSES(VF_BAD_LENGTH, vf_desk_file(&desk, VF_TEXT("long"), longest, sizeof longest));
+    REFUSES(VF_BAD_ARGUMENT, vf_desk_file_lent(&desk, NO_FORM, bytes, 1));
+    REFUSES(VF_BAD_LENGTH, vf_desk_file_lent(&desk, VF_TEXT("long"), longest, sizeof longest));
     EXPECT(!desk.live && !desk.at);
     DOES(vf_desk_file(&desk, VF_TEXT("long"), longest, LONGEST_FILE));
     REFUSES(VF_FILE_EXISTS, vf_desk_file(&desk, VF_TEXT("long"), bytes, 1));
@@ -229,12 +231,42 @@ static void opening(void)
     DOES(vf_desk_open(&desk, 300, 5, 9));
     REFUSES(VF_OPEN, vf_desk_open(&desk, 8, 1, 1));
     REFUSES(VF_OPEN, vf_desk_file(&desk, VF_TEXT("late"), bytes, 1));
+    REFUSES(VF_OPEN, vf_desk_file_lent(&desk, VF_TEXT("late"), bytes, 1));
     GIVES(5, vf_desk_task(&desk, A, 1, VF_TASK_PLAIN, &number_told));
     GIVES(FIRST_FLEX, vf_desk_load(&desk, A, 0, VF_TEXT("long"), &number_told));
     DOES(vf_desk_load(&desk, A, 1, VF_TEXT("empty"), &number_told));
     DOES(vf_desk_close(&desk));
     EXPECT(!desk.live && !desk.at);
     DOES(vf_desk_close(&desk));
+}
+
+/* Files that are lent stand beside those that were copied, by their names. A task loads the bytes of either, and no
+ * call writes to what is lent. */
+static void files_are_lent(void)
+{
+    static uint8_t lent[] = "these lie in the program", as_they_were[sizeof lent], shown[sizeof lent];
+    static uint8_t given[] = "copied";
+    memcpy(as_they_were, lent, sizeof lent);
+    DOES(vf_desk_file_lent(&desk, VF_TEXT("lent"), lent, sizeof lent));
+    DOES(vf_desk_file(&desk, VF_TEXT("copied"), given, sizeof given));
+    DOES(vf_desk_file_lent(&desk, VF_TEXT("empty"), lent, 0));
+    REFUSES(VF_FILE_EXISTS, vf_desk_file(&desk, VF_TEXT("lent"), bytes, 1));
+    REFUSES(VF_FILE_EXISTS, vf_desk_file_lent(&desk, VF_TEXT("lent"), bytes, 1));
+    REFUSES(VF_FILE_EXISTS, vf_desk_file_lent(&desk, VF_TEXT("copied"), bytes, 1));
+    memset(given, 0, sizeof given);
+    DOES(vf_desk_open(&desk, 8, 1, 1));
+    DOES(vf_desk_task(&desk, A, 1, VF_TASK_PLAIN, &number_told));
+    DOES(vf_desk_load(&desk, A, 0, VF_TEXT("lent"), &number_told));
+    GIVES(sizeof lent, vf_desk_show(&desk, A, 0, shown, sizeof shown, &number_told));
+    EXPECT(memcmp(shown, lent, sizeof lent) == 0);
+    DOES(vf_desk_load(&desk, A, 1, VF_TEXT("copied"), &number_told));
+    GIVES(sizeof given, vf_desk_show(&desk, A, 1, shown, sizeof shown, &number_told));
+    EXPECT(memcmp(shown, "copied", sizeof given) == 0);
+    DOES(vf_desk_load(&desk, A, 2, VF_TEXT("empty"), &number_told));
+    DOES(vf_desk_put(&desk, A, 0, 0, (const uint8_t *)"those", 5));
+    DOES(vf_desk_mid(&desk, A, 0, 5, -5));
+    DOES(vf_desk_close(&desk));
+    EXPECT(memcmp(lent, as_they_were, sizeof lent) == 0);
 }
 
 /* A block takes as many bytes as it has in one call, and 507 of them in one line. */
@@ -556,6 +588,7 @@ int main(void)
 {
     closed_desks_answer_so();
     opening();
+    files_are_lent();
     closed_desks_answer_so();
     open_desk(PAGES, 1, 1);
     DOES(vf_desk_reply(&desk, bytes, 0, &count));

@@ -10,6 +10,8 @@
 enum { MOST_REQUESTS = 300, LINES = 20000, PAGES = 32 };
 
 static long requests, live, refused_request = -1;
+static size_t asked;
+static const uint8_t lent[4 * 4096];
 
 /* What vervainfile asks for memory. A host that brings its own defines these three. */
 struct granted {
@@ -32,6 +34,7 @@ struct granted rattle_alloc(size_t size, size_t align)
 {
     if (is_refused())
         return granted(NULL);
+    asked += size;
     live++;
     return granted(malloc(size ? size : align));
 }
@@ -39,6 +42,7 @@ struct granted rattle_alloc(size_t size, size_t align)
 struct granted rattle_realloc(void *at, size_t old_size, size_t size, size_t align)
 {
     (void)old_size;
+    asked += size;
     return is_refused() ? granted(NULL) : granted(realloc(at, size ? size : align));
 }
 
@@ -114,6 +118,8 @@ static void calls_on_memory(void)
     EXPECT(vf_desk_task(&desk, VF_TEXT("d"), 10, VF_TASK_PLAIN, &number) == VF_OK);
     BOTH(vf_desk_load(&desk, VF_TEXT("c"), 0, VF_TEXT("notes"), &number),
          vf_desk_load(&desk, VF_TEXT("c"), 2, VF_TEXT("none"), &number));
+    EXPECT(vf_desk_load(&desk, VF_TEXT("c"), 2, VF_TEXT("lent"), &number) == VF_OK);
+    EXPECT(vf_desk_free(&desk, VF_TEXT("c"), 2) == VF_OK);
     BOTH(vf_desk_alloc(&desk, VF_TEXT("c"), 1, 20, &number), vf_desk_alloc(&desk, VF_TEXT("c"), 1, 20, &number));
     BOTH(vf_desk_put(&desk, VF_TEXT("c"), 1, 0, abc, 3), vf_desk_put(&desk, VF_TEXT("c"), 1, 18, abc, 3));
     BOTH(vf_desk_extend(&desk, VF_TEXT("c"), 1, 40), vf_desk_extend(&desk, VF_TEXT("c"), 5, 40));
@@ -187,6 +193,9 @@ int main(void)
 {
     DOES_AT_LAST(vf_desk_file(&desk, VF_TEXT("notes"), (const uint8_t *)"notes that are handed over", 26));
     DOES_AT_LAST(vf_desk_file(&desk, VF_TEXT("more"), (const uint8_t *)"more", 4));
+    asked = 0;
+    DOES_AT_LAST(vf_desk_file_lent(&desk, VF_TEXT("lent"), lent, sizeof lent));
+    EXPECT(asked < sizeof lent / 4);
     DOES_AT_LAST(vf_desk_open(&desk, PAGES, 1, 1));
     long held = live;
     requests = 0;

@@ -26,6 +26,9 @@ static void calls_see_null(struct vf_desk *it, size_t n)
     IS_NULL(vf_desk_file(NULL, name, n, name, n));
     IS_NULL(vf_desk_file(it, NULL, n, name, n));
     IS_NULL(vf_desk_file(it, name, n, NULL, n));
+    IS_NULL(vf_desk_file_lent(NULL, name, n, name, n));
+    IS_NULL(vf_desk_file_lent(it, NULL, n, name, n));
+    IS_NULL(vf_desk_file_lent(it, name, n, NULL, n));
     IS_NULL(vf_desk_open(NULL, 1, 1, 1));
     IS_NULL(vf_desk_close(NULL));
     IS_NULL(vf_desk_task(NULL, name, n, 1, 1, &number));

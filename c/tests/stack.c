@@ -138,7 +138,11 @@ static void wide_bytes(void)
     vf_flex_wide_read(memory, ROOM, &wide, 1, 0, bytes, 3000);
 }
 
-static void desk_file(void) { vf_desk_file(&desk, VF_TEXT("notes"), bytes, 100); }
+static void desk_file(void)
+{
+    vf_desk_file(&desk, VF_TEXT("notes"), bytes, 100);
+    vf_desk_file_lent(&desk, VF_TEXT("more"), bytes, 100);
+}
 static void desk_open(void) { vf_desk_open(&desk, 64, 1, 1); }
 static void desk_tasks(void)
 {

@@ -61,7 +61,7 @@ def in_c(name, declared):
     """The parameters of C for one of the source's: a slice is a pointer and a length."""
     if declared == UNSEEN:
         return []
-    found = re.fullmatch(r"&(mut )?(\[?)(\w+)\]?", declared)
+    found = re.fullmatch(r"&(?:'static )?(mut )?(\[?)(\w+)\]?", declared)
     word = found[3] if found else declared
     if word not in TYPES:
         raise Unknown(declared)

@@ -8,6 +8,7 @@ pub mod FormLaws
 pub mod FillLaws
 pub mod ListLaws
 pub mod SegmentLaws
+pub mod FileLaws
 pub mod OpeningLaws
 pub mod LineLaws
 pub mod AskLaws

@@ -2,4 +2,5 @@
 pub mod BlockSteps
 pub mod DeskLists
 pub mod DeskSteps
+pub mod FileRows
 pub mod FirstConsole

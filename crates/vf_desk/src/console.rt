@@ -8,6 +8,7 @@ ghost use Rattle.rh_lines.specs.WholeText.{filled};
 ghost use Rattle.vf_desk.specs.Said.{said_text};
 ghost use Rattle.vf_desk.specs.Console.{Prints};
 
+use crate::desk_files::DeskFiles;
 use crate::said::Said;
 use rh_defs::{Command, Question};
 use rh_heap_index::PageStore;
@@ -15,8 +16,8 @@ use rh_lines::{WholeText, read_line};
 use rh_tasks::World;
 use std::mem;
 
-/// A world over scattered pages.
-pub type PagedWorld = World<PageStore>;
+/// A world over scattered pages, with files that were copied or lent.
+pub type PagedWorld = World<PageStore, DeskFiles>;
 
 /// The reply to any other command than a question has at most so many bytes: those of an event with all its words.
 const LONGEST_REPLY: usize = 96;

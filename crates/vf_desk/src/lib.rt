@@ -12,6 +12,7 @@ mod c_heap;
 mod call_outcome;
 mod console;
 mod desk;
+mod desk_files;
 mod event;
 mod flex;
 mod forms;

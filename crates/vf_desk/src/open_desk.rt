@@ -10,14 +10,15 @@ ghost use Rattle.vf_desk.specs.SeenDesk.{KeepsRest, SeenBy};
 
 use crate::call_outcome::CallOutcome;
 use crate::console::{Console, PagedWorld};
+use crate::desk_files::DeskFiles;
 use crate::forms::{anchor_of, name_of};
 use rh_defs::sizes::GREATEST_NUMBER;
-use rh_defs::{Command, Files, Reply};
+use rh_defs::{Command, Reply};
 
 /// The files that wait for a desk to be opened, and the desk from then on.
 #[derive(Drop)]
 pub struct OpenDesk {
-    pub files: Files,
+    pub files: DeskFiles,
     pub console: Option<Console>,
 }
 

@@ -1,18 +1,20 @@
 //! How a desk begins and ends.
 ghost use Rattle.std.specs.Prelude.{◌≡◌, ◌≢◌, ◌≤◌, ◌++◌, ◌∷◌, [], false, None, Some, length, IfSome, OnOk, OnErr};
 ghost use Rattle.rh_defs.specs.Files.{has_file};
+ghost use Rattle.vf_desk.specs.Inner.FileRows.{given_bytes};
 ghost use Rattle.vf_desk.specs.Inner.FirstConsole.{first_console};
 ghost use Rattle.vf_desk.specs.Opening.{Adds, Opens, file_status, opening_status};
 ghost use Rattle.rh_defs.specs.declared.sizes.TheConstants.{LONGEST_FILE};
 
 use crate::console::{Console, PagedWorld};
 use crate::desk::VfDesk;
+use crate::desk_files::{DeskFiles, NewFile};
 use crate::forms::name_of;
 use crate::open_desk::OpenDesk;
 use crate::said::Said;
 use crate::status::{BAD_ARGUMENT, BAD_LENGTH, FILE_EXISTS, NO_MEMORY, OK, OPEN};
 use rh_defs::sizes::{LONGEST_FILE, MAX_PAGES, MIN_PAGES};
-use rh_defs::{Command, Files, Handle, Name, Question, Ref};
+use rh_defs::{Command, Handle, Name, Question, Ref};
 use rh_heap_index::page_store;
 use rh_tasks::World;
 use std::alloc::{AllocError, Global};
@@ -23,27 +25,48 @@ use std::mem;
 pub extern "C" fn vf_desk_file(alloc: Global, desk: &mut VfDesk, name: &[u8], bytes: &[u8]) -> u32
     ensures { Adds name.now bytes.now desk.old.handle.open_desk desk.new.handle.open_desk result }
 {
+    add(alloc, desk, name, &NewFile::Copied(bytes))
+}
+
+/// Adds a named file as `vf_desk_file` does, but copies none of its bytes: the caller keeps them, and they stay as they
+/// are.
+#[unsafe(no_mangle)]
+pub extern "C" fn vf_desk_file_lent(
+    alloc: Global,
+    desk: &mut VfDesk,
+    name: &[u8],
+    bytes: &'static [u8],
+) -> u32
+    ensures { Adds name.now bytes.now desk.old.handle.open_desk desk.new.handle.open_desk result }
+{
+    add(alloc, desk, name, &NewFile::Lent(bytes))
+}
+
+/// Adds a named file.
+fn add(alloc: Global, desk: &mut VfDesk, name: &[u8], file: &NewFile<'_>) -> u32
+    ensures { Adds name.now (given_bytes file.now) desk.old.handle.open_desk desk.new.handle.open_desk result }
+{
     let Some(mut open_desk) = desk.take(alloc) else {
-        return first_file(alloc, desk, name, bytes);
+        return first_file(alloc, desk, name, file);
     };
-    let status = open_desk.add_file(alloc, name, bytes);
+    let status = open_desk.add_file(alloc, name, file);
     desk.put(open_desk);
     status
 }
 
 /// Adds the first named file of a handle that has nothing yet.
-fn first_file(alloc: Global, desk: &mut VfDesk, name: &[u8], bytes: &[u8]) -> u32
+fn first_file(alloc: Global, desk: &mut VfDesk, name: &[u8], file: &NewFile<'_>) -> u32
     requires { desk.old.handle.open_desk ≡ None }
-    ensures { Adds name.now bytes.now desk.old.handle.open_desk desk.new.handle.open_desk result }
+    ensures { Adds name.now (given_bytes file.now) desk.old.handle.open_desk desk.new.handle.open_desk result }
 {
-    let fault = first_file_status(name, bytes);
+    let fault = first_file_status(name, file.as_slice());
     if fault != OK {
         return fault;
     }
     let Some(mut open_desk) = OpenDesk::new_box(alloc) else {
         return NO_MEMORY;
     };
-    let status = open_desk.add_file(alloc, name, bytes);
+    let status = open_desk.add_file(alloc, name, file);
     if status != OK {
         return status;
     }
@@ -120,7 +143,7 @@ impl OpenDesk {
         ensures console { result.console ≡ None }
     {
         OpenDesk {
-            files: Files::new(alloc),
+            files: DeskFiles::new(alloc),
             console: None,
         }
     }
@@ -136,8 +159,8 @@ impl OpenDesk {
     }
 
     /// Adds a named file: OPEN, BAD_ARGUMENT, BAD_LENGTH, FILE_EXISTS, NO_MEMORY.
-    fn add_file(&mut self, alloc: Global, name: &[u8], bytes: &[u8]) -> u32
-        ensures { Adds name.now bytes.now (Some self.old) (Some self.new) result }
+    fn add_file(&mut self, alloc: Global, name: &[u8], file: &NewFile<'_>) -> u32
+        ensures { Adds name.now (given_bytes file.now) (Some self.old) (Some self.new) result }
     {
         if self.console.is_some() {
             return OPEN;
@@ -145,13 +168,13 @@ impl OpenDesk {
         let Some(name) = name_of(name) else {
             return BAD_ARGUMENT;
         };
-        if bytes.len() > LONGEST_FILE {
+        if file.as_slice().len() > LONGEST_FILE {
             return BAD_LENGTH;
         }
         if self.files.contains(&name) {
             return FILE_EXISTS;
         }
-        match insert(alloc, &mut self.files, name, bytes) {
+        match insert(alloc, &mut self.files, name, file) {
             Ok(()) => OK,
             Err(_) => NO_MEMORY,
         }
@@ -168,7 +191,7 @@ impl OpenDesk {
         let Ok(store) = page_store(alloc, pages) else {
             return NO_MEMORY;
         };
-        let files = mem::replace(&mut self.files, Files::new(alloc));
+        let files = mem::replace(&mut self.files, DeskFiles::new(alloc));
         let (handle, r) = (Handle(first_handle), Ref(first_ref));
         self.begin(World::with_next(store, files, handle, r));
         OK
@@ -213,14 +236,18 @@ fn first_status(pages: u32, first_handle: u32, first_ref: u32) -> u32
     OK
 }
 
-/// Adds a copy of the bytes behind the other files.
-fn insert(alloc: Global, files: &mut Files, name: Name, bytes: &[u8]) -> Result<(), AllocError>
+/// Adds a file behind the others.
+fn insert(
+    alloc: Global,
+    files: &mut DeskFiles,
+    name: Name,
+    file: &NewFile<'_>,
+) -> Result<(), AllocError>
     requires new_name { has_file name files.old ≡ false }
-    requires small { length bytes.now ≤ LONGEST_FILE }
-    ensures ok { OnOk result (files.new ≡ files.old ++ (name, bytes.now) ∷ []) }
+    requires small { length (given_bytes file.now) ≤ LONGEST_FILE }
+    ensures ok { OnOk result (files.new ≡ files.old ++ (name, given_bytes file.now) ∷ []) }
     ensures err { OnErr result (files.new ≡ files.old) }
 {
-    let mut copy = Vec::with_capacity(alloc, bytes.len())?;
-    copy.extend_from_slice(bytes)?;
-    files.insert(name, copy)
+    let bytes = file.kept(alloc)?;
+    files.insert(name, bytes)
 }

@@ -1,7 +1,7 @@
 -- `of_unboxed` moves two fields, the address as one of another type; what they own stays.
 use Rattle.vf_desk.proofs.Common.{refl, sym, subst, List, [], ◌∷◌, ◌++◌, Val, vptr, ftrue, fsep, SProp, ent, emp, id⊢, fact, fact_i, tables, WpFn, ‵, raw}
 use Rattle.vf_desk.proofs.Common.{◌⊛◌, ◌$◌, ◌∵◌, !, qed, by, move, keep, use0, split, fsplit, fjoin, suffices, agg, sub, whole, stop, fld, of_opd, no_more}
-use Rattle.vf_desk.proofs.Common.{and_then, returns, enter, alloc_all, pass_all, free_all, look_at, get, get_in, sets, yes, block_ptr, plain, nothing, Stays}
+use Rattle.vf_desk.proofs.Common.{and_then, returns, enter, alloc_all, pass_all, free_all, look_at, get, get_in, sets, block_ptr, plain, nothing, Stays}
 use Rattle.vf_desk.proofs.Common.{stay_dropped, walk_of, Goes-blank, proved_at, leaves, Some, ◌≡◌, ghosts}
 use denote.Signature.{Slot}
 use Rattle.std.specs.contracts.alloc.Global as heap
@@ -17,13 +17,14 @@ abbrev From : Slot 0
 From = plain (λ _. Apart OpenDesk.the_row heap.the_row heap_laws.the_row_laws ghosts)
 
 abbrev kept : Stays f.ended.signature.params f.ended.kept
-kept = (stay_dropped From yes, tt)
+kept = (stay_dropped From f.ended.kept.0, tt)
 
 pub of_unboxed_spec : {M : Type 1} → statement M
 of_unboxed_spec 𝓤 𝓛 𝓜 𝓡 wired =
     let 𝓣 = tables 𝓤 𝓛.H 𝓜 𝓡 𝓡.env in
     let clauses = f.clauses 𝓛 𝓜.mem 𝓡.returns in
-    proved_at 𝓛 f.ended kept clauses 𝓜 𝓡 (Goes-blank 𝓛 0 From yes (λ κs x w. tt), tt) f.Key.name code.function (code.unfolded 𝓤 𝓛.H 𝓜 𝓡 wired) (λ y are.
+    proved_at 𝓛 f.ended kept clauses 𝓜 𝓡 (Goes-blank 𝓛 0 From f.ended.kept.0 (λ κs x w. tt), tt)
+    f.Key.name code.function (code.unfolded 𝓤 𝓛.H 𝓜 𝓡 wired) (λ y are.
     let v = y.0.3.0 in
     let a = v.alloc in
     let End : Val → SProp 𝓤 = (walk_of 𝓛 f.ended kept clauses).post y in
