@@ -8,28 +8,28 @@ use Rattle.std.specs.Str.{bytes_eq}
 use Rattle.std.specs.Map.{lookup}
 use Rattle.rh_defs.specs.Files.{FileList, file_bytes, has_file, AreShort}
 use Rattle.rh_defs.specs.declared.sizes.TheConstants.{LONGEST_FILE}
-use Rattle.vf_desk.specs.Inner.FileRows.{bytes_in, rows_of}
+use Rattle.vf_desk.specs.FileRows.{file_rows, kept_bytes}
 use Rattle.vf_desk.specs.declared.desk_files.FileBytes.{FileBytes}
 
 -- a file has the name exactly where a look-up finds one
-pub has_file-lookup : (name : List ℕ) (entries : List (List ℕ × FileBytes)) → has_file name (rows_of entries) ≡ is_some (lookup (bytes_eq name) entries)
+pub has_file-lookup : (name : List ℕ) (entries : List (List ℕ × FileBytes)) → has_file name (file_rows entries) ≡ is_some (lookup (bytes_eq name) entries)
 has_file-lookup name [] = refl
 has_file-lookup name (e ∷ entries) =
-    elim (bytes_eq name e.0) as (λ b. (b || has_file name (rows_of entries)) ≡ is_some (cond b (Some e.1) (lookup (bytes_eq name) entries)))
+    elim (bytes_eq name e.0) as (λ b. (b || has_file name (file_rows entries)) ≡ is_some (cond b (Some e.1) (lookup (bytes_eq name) entries)))
     [ true ↦ refl | false ↦ has_file-lookup name entries ]
 
 -- where nothing has the name, a look-up finds none
-pub lookup-none : (name : List ℕ) (entries : List (List ℕ × FileBytes)) → has_file name (rows_of entries) ≡ false → lookup (bytes_eq name) entries ≡ None
+pub lookup-none : (name : List ℕ) (entries : List (List ℕ × FileBytes)) → has_file name (file_rows entries) ≡ false → lookup (bytes_eq name) entries ≡ None
 lookup-none name entries h = none_of (lookup (bytes_eq name) entries) (sym (has_file-lookup name entries) ∙ h)
   where
     none_of : (o : Option (FileBytes)) → is_some o ≡ false → o ≡ None
     none_of None e = refl
     none_of (Some x) e = absurd (cc)
 
-pub rows_of-append : (entries : List (List ℕ × FileBytes)) (e : List ℕ × FileBytes)
-    → rows_of (entries ++ e ∷ []) ≡ rows_of entries ++ (e.0, bytes_in e.1) ∷ []
-rows_of-append [] e = refl
-rows_of-append (x ∷ entries) e = ap (λ rest. (x.0, bytes_in x.1) ∷ rest) (rows_of-append entries e)
+pub file_rows-append : (entries : List (List ℕ × FileBytes)) (e : List ℕ × FileBytes)
+    → file_rows (entries ++ e ∷ []) ≡ file_rows entries ++ (e.0, kept_bytes e.1) ∷ []
+file_rows-append [] e = refl
+file_rows-append (x ∷ entries) e = ap (λ rest. (x.0, kept_bytes x.1) ∷ rest) (file_rows-append entries e)
 
 bytes_eq-turned : (a b : List ℕ) → bytes_eq a b ≡ bytes_eq b a
 bytes_eq-turned a b = same_from_decides (bytes_eq a b) (bytes_eq b a) (bytes_eq-Decides a b)
@@ -37,11 +37,11 @@ bytes_eq-turned a b = same_from_decides (bytes_eq a b) (bytes_eq b a) (bytes_eq-
 
 -- the bytes that a look-up finds
 pub file_bytes-lookup : (name : List ℕ) (entries : List (List ℕ × FileBytes))
-    → file_bytes name (rows_of entries) ≡ option_map bytes_in (lookup (bytes_eq name) entries)
+    → file_bytes name (file_rows entries) ≡ option_map kept_bytes (lookup (bytes_eq name) entries)
 file_bytes-lookup name [] = refl
 file_bytes-lookup name (e ∷ entries) =
     rw (bytes_eq-turned e.0 name) (elim (bytes_eq name e.0) as (λ b. option_map (λ (file : List ℕ × List ℕ). file.1)
-    (cond b (Some (e.0, bytes_in e.1)) (find (λ (file : List ℕ × List ℕ). bytes_eq file.0 name) (rows_of entries))) ≡ option_map bytes_in
+    (cond b (Some (e.0, kept_bytes e.1)) (find (λ (file : List ℕ × List ℕ). bytes_eq file.0 name) (file_rows entries))) ≡ option_map kept_bytes
     (cond b (Some e.1) (lookup (bytes_eq name) entries)))
     [ true ↦ refl | false ↦ file_bytes-lookup name entries ])
 

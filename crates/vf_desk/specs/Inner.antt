@@ -2,5 +2,4 @@
 pub mod BlockSteps
 pub mod DeskLists
 pub mod DeskSteps
-pub mod FileRows
 pub mod FirstConsole

@@ -7,6 +7,7 @@ pub mod DeskItems
 pub mod DeskLines
 pub mod DeskStatus
 pub mod Event
+pub mod FileRows
 pub mod HandleOwnership
 pub mod Inner
 pub mod Next

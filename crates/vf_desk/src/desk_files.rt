@@ -4,7 +4,7 @@ ghost use Rattle.std.specs.Prelude.{◌≡◌, ◌≤◌, [], ◌∷◌, ◌++�
 ghost use Rattle.std.specs.Prelude.{length};
 ghost use Rattle.rh_defs.specs.Files.{has_file, file_bytes};
 ghost use Rattle.rh_defs.specs.declared.sizes.TheConstants.{LONGEST_FILE};
-ghost use Rattle.vf_desk.specs.Inner.FileRows.{bytes_in, given_bytes};
+ghost use Rattle.vf_desk.specs.FileRows.{kept_bytes, given_bytes};
 
 use indexmap::IndexMap;
 use rh_defs::Name;
@@ -29,13 +29,13 @@ pub struct DeskFiles {
 
 impl Model for DeskFiles {
     ghost use Rattle.rh_defs.specs.Files.{AreShort, FileList};
-    ghost use Rattle.vf_desk.specs.Inner.FileRows.{rows_of};
+    ghost use Rattle.vf_desk.specs.FileRows.{file_rows};
 
     ghost Value = { FileList };
 
-    ghost view = { λ f. rows_of f.contents.entries };
+    ghost view = { λ f. file_rows f.contents.entries };
 
-    ghost invariant = { λ f. AreShort (rows_of f.contents.entries) };
+    ghost invariant = { λ f. AreShort (file_rows f.contents.entries) };
 }
 
 impl DeskFiles {
@@ -51,8 +51,8 @@ impl DeskFiles {
     /// Adds a file behind the others. AllocError where memory is refused, and then the files are as before.
     pub fn insert(&mut self, name: Name, bytes: FileBytes) -> Result<(), AllocError>
         requires new_name { has_file name self.old ≡ false }
-        requires small { length (bytes_in bytes) ≤ LONGEST_FILE }
-        ensures ok { OnOk result (self.new ≡ self.old ++ (name, bytes_in bytes) ∷ []) }
+        requires small { length (kept_bytes bytes) ≤ LONGEST_FILE }
+        ensures ok { OnOk result (self.new ≡ self.old ++ (name, kept_bytes bytes) ∷ []) }
         ensures err { OnErr result (self.new ≡ self.old) }
     {
         self.contents.insert(name, bytes)?;
@@ -101,7 +101,7 @@ impl NewFile<'_> {
 
     /// The bytes as a desk keeps them: AllocError where memory is refused for a copy.
     pub fn kept(&self, alloc: Global) -> Result<FileBytes, AllocError>
-        ensures { IfOk result (λ bytes. bytes_in bytes ≡ given_bytes self.now) }
+        ensures { IfOk result (λ bytes. kept_bytes bytes ≡ given_bytes self.now) }
     {
         match self {
             NewFile::Copied(bytes) => {
@@ -117,7 +117,7 @@ impl NewFile<'_> {
 impl FileBytes {
     /// The bytes.
     fn as_slice(&self) -> &[u8]
-        ensures { result.now ≡ bytes_in self.now }
+        ensures { result.now ≡ kept_bytes self.now }
     {
         match self {
             FileBytes::Copied(bytes) => bytes.as_slice(),

@@ -1,7 +1,7 @@
 //! How a desk begins and ends.
 ghost use Rattle.std.specs.Prelude.{◌≡◌, ◌≢◌, ◌≤◌, ◌++◌, ◌∷◌, [], false, None, Some, length, IfSome, OnOk, OnErr};
 ghost use Rattle.rh_defs.specs.Files.{has_file};
-ghost use Rattle.vf_desk.specs.Inner.FileRows.{given_bytes};
+ghost use Rattle.vf_desk.specs.FileRows.{given_bytes};
 ghost use Rattle.vf_desk.specs.Inner.FirstConsole.{first_console};
 ghost use Rattle.vf_desk.specs.Opening.{Adds, Opens, file_status, opening_status};
 ghost use Rattle.rh_defs.specs.declared.sizes.TheConstants.{LONGEST_FILE};

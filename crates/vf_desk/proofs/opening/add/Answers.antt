@@ -1,5 +1,5 @@
 use Rattle.std.proofs.Common.{Some, ap, subst, ◌∙◌}
-use Rattle.vf_desk.specs.Inner.FileRows.{given_bytes}
+use Rattle.vf_desk.specs.FileRows.{given_bytes}
 use Rattle.vf_desk.specs.Opening.{Adds}
 use Rattle.vf_desk.proofs.SeenLaws.{held-by}
 use Rattle.vf_desk.proofs.opening.add.Goals as goal

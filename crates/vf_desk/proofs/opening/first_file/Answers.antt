@@ -1,5 +1,5 @@
 use Rattle.std.proofs.Common.{None, ap, ◌∙◌}
-use Rattle.vf_desk.specs.Inner.FileRows.{given_bytes}
+use Rattle.vf_desk.specs.FileRows.{given_bytes}
 use Rattle.vf_desk.specs.Opening.{file_status}
 use Rattle.vf_desk.proofs.OpeningLaws.{adds-bad, adds-first-done, adds-first-refused, adds-full}
 use Rattle.vf_desk.proofs.opening.first_file.Goals as goal

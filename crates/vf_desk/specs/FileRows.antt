@@ -7,13 +7,13 @@ use Rattle.vf_desk.specs.declared.desk_files.NewFile.{NewFile}
 use Rattle.vf_desk.specs.declared.desk_files.NewFile.TheVariants as given
 
 -- the bytes of a file
-abbrev pub bytes_in : FileBytes → List ℕ
-bytes_in (file.Copied bytes) = bytes.items
-bytes_in (file.Lent bytes) = bytes.now
+abbrev pub kept_bytes : FileBytes → List ℕ
+kept_bytes (file.Copied bytes) = bytes.items
+kept_bytes (file.Lent bytes) = bytes.now
 
 -- the bytes in place of what holds them
-abbrev pub rows_of : List (List ℕ × FileBytes) → FileList
-rows_of entries = map (λ row. (row.0, bytes_in row.1)) entries
+abbrev pub file_rows : List (List ℕ × FileBytes) → FileList
+file_rows entries = map (λ row. (row.0, kept_bytes row.1)) entries
 
 -- the bytes of a file that is added
 abbrev pub given_bytes : NewFile → List ℕ
