@@ -188,10 +188,10 @@ uint32_t vf_version(void);
  * 6. Of the calls on desks: the struct is zeros, or as the last call left it. It may be moved, but a copy of an open
  *    one is not used beside it, nor after it was closed. An open desk is closed at last, or its memory is never given
  *    back. Any thread may use a desk, but one call on it runs at a time: where threads share one, each call stands
- *    under a lock of yours.
+ *    under a lock of yours. The bytes of a file that is lent stay where and as they are until the desk is closed.
  * 7. What the library asks for memory, malloc(), realloc() and free() or your own, are one allocator, which aligns to
- *    16. Of all calls vf_desk_file and vf_desk_open alone ask for some, and vf_desk_close gives it back; these three
- *    are not called from a signal handler, nor from the forked child of a process with threads.
+ *    16. Of all calls vf_desk_file, vf_desk_file_lent and vf_desk_open alone ask for some, and vf_desk_close gives it
+ *    back; these four are not called from a signal handler, nor from the forked child of a process with threads.
  */
 
 /* ---- OS_Heap -------------------------------------------------------------------------------------------------------
@@ -517,9 +517,9 @@ uint32_t vf_flex_wide_budge(uint8_t *memory, size_t len, struct vf_wide_slot *sl
  * OS would see: a slot begins at &8000, the module area at &1800000. Numbers and sizes are at most 2,147,483,647, and
  * so is the magnitude of an amount.
  *
- * Each call tests first, and has changed nothing then: VF_NULL; VF_CLOSED, but for vf_desk_file, vf_desk_open and
- * vf_desk_close; VF_BAD_ARGUMENT. Then come the refusals of the rules, of which each call's comment names those that it
- * can have.
+ * Each call tests first, and has changed nothing then: VF_NULL; VF_CLOSED, but for vf_desk_file, vf_desk_file_lent,
+ * vf_desk_open and vf_desk_close; VF_BAD_ARGUMENT. Then come the refusals of the rules, of which each call's comment
+ * names those that it can have.
  *
  * A list is put into an array of yours: as many items as it has room for. How many there are in all is told by the
  * count, so that an array of length 0 asks for the count alone; its pointer is not null even then.
@@ -631,6 +631,11 @@ struct vf_area {
  * VF_BAD_ARGUMENT, VF_BAD_LENGTH where there are more than 1,048,576, VF_FILE_EXISTS, VF_NO_MEMORY. */
 uint32_t vf_desk_file(struct vf_desk *desk, const uint8_t *name, size_t name_len, const uint8_t *bytes,
                       size_t bytes_len);
+
+/* Adds a file as vf_desk_file does, but copies none of its bytes. They are yours, as those of a static array are, and
+ * stay where and as they are until the desk is closed. No call writes to them. The same statuses. */
+uint32_t vf_desk_file_lent(struct vf_desk *desk, const uint8_t *name, size_t name_len, const uint8_t *bytes,
+                           size_t bytes_len);
 
 /* Opens a desk of 8 to 1,024 pages with the files that were added. Its first task gets `first_handle`, its first
  * message `first_ref`; both count up from there, and may not be 0. VF_OPEN, VF_BAD_ARGUMENT, VF_NO_MEMORY: then the
@@ -1245,6 +1250,9 @@ VF_UNLESS_NULL(vf_flex_wide_budge,
 VF_UNLESS_NULL(vf_desk_file,
                (struct vf_desk *desk, const uint8_t *name, size_t name_len, const uint8_t *bytes, size_t bytes_len),
                desk && name && bytes, (desk, name, name_len, bytes, bytes_len))
+VF_UNLESS_NULL(vf_desk_file_lent,
+               (struct vf_desk *desk, const uint8_t *name, size_t name_len, const uint8_t *bytes, size_t bytes_len),
+               desk && name && bytes, (desk, name, name_len, bytes, bytes_len))
 VF_UNLESS_NULL(vf_desk_open,
                (struct vf_desk *desk, uint32_t pages, uint32_t first_handle, uint32_t first_ref),
                desk, (desk, pages, first_handle, first_ref))
@@ -1512,6 +1520,7 @@ VF_UNLESS_NULL(vf_message_decode,
 #define vf_flex_checked_resize vf_flex_checked_resize_unless_null
 #define vf_flex_checked_block_size vf_flex_checked_block_size_unless_null
 #define vf_desk_file vf_desk_file_unless_null
+#define vf_desk_file_lent vf_desk_file_lent_unless_null
 #define vf_desk_open vf_desk_open_unless_null
 #define vf_desk_close vf_desk_close_unless_null
 #define vf_desk_task vf_desk_task_unless_null
