@@ -41,12 +41,15 @@ function copies(elements) {
 const HEADS = 24;
 const EDGE = 2;
 
-// The names above a chart once more, as wide as it: they stay in sight where it is scrolled.
+// The names above a chart once more, on a plate as wide as it: they stay in sight where it is scrolled.
 function headsOf(chart) {
   const heads = chart.cloneNode(false);
   const frame = document.createElement("div");
+  const plate = document.createElementNS(chart.namespaceURI, "rect");
+  const places = { class: "plate", width: "100%", height: HEADS };
+  for (const [name, value] of Object.entries(places)) plate.setAttribute(name, value);
   heads.setAttribute("viewBox", `0 0 ${chart.viewBox.baseVal.width} ${HEADS}`);
-  heads.append(...[...chart.querySelectorAll(".who")].map((name) => name.cloneNode(true)));
+  heads.append(plate, ...[...chart.querySelectorAll(".who")].map((name) => name.cloneNode(true)));
   Object.assign(frame, { className: "heads", ariaHidden: "true" });
   frame.append(heads);
   return frame;

@@ -274,7 +274,8 @@ def check_windows_line_ends(bench):
         told = page.value("[...document.querySelectorAll('#lines .why')].map((it) => it.textContent)")
         same([it.endswith("Mend all 3 such lines") for it in told], [False, False, True], "which line has a button")
         page.value("document.querySelector('#lines > li:last-child .fix:last-child').click()")
-        same([page.saved("a.desk"), page.focused(), page.replies()[:5]], [b"task a 9\n# b\nareas\n", "Line 3", "ok 1\n"],
+        same([page.saved("a.desk"), page.focused(), page.replies()[:5]],
+             [b"task a 9\n# b\nareas\n", "Line 3", "ok 1\n"],
              "the script that was mended there, what has the focus, and the first reply")
         page.drop_bytes("b.desk", b"areas\nareas\t\nareas\n")
         page.click("run")

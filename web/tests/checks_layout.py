@@ -80,7 +80,7 @@ def check_side_by_side(bench):
 def check_more_is_told(bench):
     """Where more is told of a step than there is room for, a line is seen in part: so it shows that there is more."""
     with bench.kept_page() as page:
-        for width, height, room in ((1280, 720, 3), (390, 844, 2)):
+        for width, height, room in ((1280, 720, 3), (390, 844, 2), (360, 640, 2)):
             page.tab.resize(width, height)
             page.load("eight-transfers")
             page.click("run")
