@@ -39,6 +39,11 @@ NAMES_SEEN = f"""((pane, lives) => [...{CHART}.querySelectorAll('.heads text')].
   name.getBoundingClientRect())))(document.querySelector('#messages').getBoundingClientRect(),
   [...{CHART}.querySelectorAll('aside .life')])"""
 
+# How far each of these names is from the chart's own, where nothing is scrolled.
+NAMES_APART = f"""((own) => [...{CHART}.querySelectorAll('.heads text')].map((name, at) => Math.round(Math.abs(
+  name.getBoundingClientRect().top - own[at].getBoundingClientRect().top))))(
+  [...{CHART}.querySelectorAll('aside .who')])"""
+
 
 def show_step(page):
     """Shows a step at which some blocks are there, and holes."""
@@ -118,6 +123,12 @@ def check_names_of_chart(bench):
         same(page.value(f"[...{CHART}.querySelectorAll('.heads')].map((it) => it.ariaHidden)"), ["true"],
              "whether the names are told twice")
         page.value(f"document.querySelector('#messages').scrollTop = 0")
+        page.begin_again()
+        page.tab.resize(1280, 720)
+        page.load("eight-transfers")
+        for _ in range(20):
+            page.click("step")
+        same(page.value(NAMES_APART), [0, 0], "how far names are from the chart's own, beside longer lists")
         page.load("hello")
         page.click("run")
         same(page.value(f"{CHART}.querySelectorAll('.heads').length"), 0, "the names where there are no messages")
