@@ -99,7 +99,7 @@ pub no-order : ShowsNoOrder
 no-order marked a b n wanted [] is = refl
 no-order marked a b n wanted (((line, Ok None), s) ∷ rest) is =
     ap (λ ls. (if not marked || wanted || is_mark line then remark_lines line else []) ++ ls)
-    (no-order marked a b n (wanted || is_mark line) rest is)
+    (no-order marked a b (n + 1) (wanted || is_mark line) rest is)
 no-order marked a b n wanted (((line, Ok (Some c)), s) ∷ rest) is =
     ap₂ (λ here ls. (if not marked || wanted then here else []) ++ ls)
     (command-alike is wanted s (n + 1) line c)

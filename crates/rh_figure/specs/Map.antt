@@ -105,7 +105,7 @@ reply_lines ls =
     map (cut REPLY_COLUMNS) (take MOST_REPLY_LINES ls)
     ++ (if nat_lt MOST_REPLY_LINES (length ls) then more_lines (length ls - MOST_REPLY_LINES) ∷ [] else [])
 
--- a step's number and its line
+-- a step: the number of its line in the script, and the line
 abbrev pub step_line : ℕ → Text → Text
 step_line n line = concat (decimal n ∷ codes "  " ∷ cut LINE_COLUMNS line ∷ [])
 
@@ -156,30 +156,31 @@ is_mark line = bytes_eq (nth_word (words_of line) 1) (codes "#picture")
 abbrev pub remark_lines : Text → List Text
 remark_lines line = if length (words_of line) == 0 then [] else cut LINE_COLUMNS line ∷ []
 
--- where a map stands between two lines: the desk, how many steps are behind it, and whether a mark was seen since
+-- where a map stands between two lines: the desk, how many lines are behind it, and whether a mark was seen since the
+-- last command
 pub record Place : Type 0 where
   pub desk : Desk
-  pub steps : ℕ
+  pub lines : ℕ
   pub wanted : Bool
 
 abbrev pub place : Desk → ℕ → Bool → Place
-place d n wanted = record { desk = d; steps = n; wanted = wanted }
+place d n wanted = record { desk = d; lines = n; wanted = wanted }
 
 -- where it stands behind a line
 abbrev pub after_read : Place → Read → Place
-after_read p (line, Ok None) = place p.desk p.steps (p.wanted || is_mark line)
-after_read p (line, Ok (Some c)) = place (step p.desk c).0 (p.steps + 1) false
-after_read p (line, Err fault) = place p.desk (p.steps + 1) false
+after_read p (line, Ok None) = place p.desk (p.lines + 1) (p.wanted || is_mark line)
+after_read p (line, Ok (Some c)) = place (step p.desk c).0 (p.lines + 1) false
+after_read p (line, Err fault) = place p.desk (p.lines + 1) false
 
 -- the lines of one line of a script, where all are shown or marked ones alone, and the pool is shared out so behind it
 abbrev pub lines_of_read : Bool → Share → Place → Read → List Text
 lines_of_read marked s p (line, Ok None) = if not marked || p.wanted || is_mark line then remark_lines line else []
 lines_of_read marked s p (line, Ok (Some c)) =
     if not marked || p.wanted
-    then command_lines p.wanted s (p.steps + 1) line c (before_of p.desk (Some c)) (step p.desk c)
+    then command_lines p.wanted s (p.lines + 1) line c (before_of p.desk (Some c)) (step p.desk c)
     else []
 lines_of_read marked s p (line, Err fault) =
-    if not marked || p.wanted then fault_lines p.wanted s (p.steps + 1) line fault p.desk else []
+    if not marked || p.wanted then fault_lines p.wanted s (p.lines + 1) line fault p.desk else []
 
 -- a line of a script, and which page is whose behind it
 abbrev pub Stage : Type 0

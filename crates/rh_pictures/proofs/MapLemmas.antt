@@ -19,7 +19,7 @@ pub long-lines : (line : Text) → longest_line < length line → (marked : Bool
     → lines_of_read marked s p (kept line, Err TooLong) ≡ lines_of_read marked s p (line, Err TooLong)
 unfolding fault_with kept
 long-lines line long marked s p =
-    ap (λ text. if not marked || p.wanted then fault_with p.wanted (p.steps + 1) text p.desk s TooLong else []) (cut-kept line long)
+    ap (λ text. if not marked || p.wanted then fault_with p.wanted (p.lines + 1) text p.desk s TooLong else []) (cut-kept line long)
 
 abbrev pub map-telling : Bool → Telling Place
 map-telling marked = record {
@@ -43,7 +43,7 @@ map-text marked p ((r, s) ∷ rest) =
 -- a mapper stands at a place
 pub record Stands {D : Type 0} (desk : D → Desk) (marked : Bool) (p : Place) (m : Mapper D) : Type 0 where
   pub desk_is : IsReordered p.desk (desk m.drawn)
-  pub steps : m.steps ≡ p.steps
+  pub lines : m.lines ≡ p.lines
   pub wanted : m.wanted ≡ p.wanted
   pub marked_is : m.marked ≡ marked
 
@@ -52,7 +52,7 @@ abbrev pub was-bad : {D : Type 0} → Mapper D → Bool
 was-bad m = m.has_bad_line
 
 stands-place : {D : Type 0} {desk : D → Desk} {marked : Bool} {p : Place} {m : Mapper D} → Stands desk marked p m → SamePlaces p (place_in desk m)
-stands-place is = record { desks = is.desk_is; steps = is.steps; wanted = is.wanted }
+stands-place is = record { desks = is.desk_is; lines = is.lines; wanted = is.wanted }
 
 -- behind a line a mapper stands where the map does
 stands-on : {D : Type 0} {desk : D → Desk} {marked : Bool} {p : Place} {m n : Mapper D} (r : Read) → Stands desk marked p m → Follows desk m r n
@@ -61,7 +61,7 @@ stands-on {desk = desk} {p = p} {m = m} r is f =
     let same = places-alike p (place_in desk m) r (stands-place is) in
     record {
       desk_is = reordered-more same.desks f.desk_is;
-      steps = f.steps ∙ same.steps;
+      lines = f.lines ∙ same.lines;
       wanted = f.wanted ∙ same.wanted;
       marked_is = f.marked_is ∙ is.marked_is;
     }
@@ -69,10 +69,10 @@ stands-on {desk = desk} {p = p} {m = m} r is f =
 -- a line is shown the same from both places
 lines-alike : (marked : Bool) (s : Share) (p q : Place) (r : Read) → SamePlaces p q → lines_of_read marked s q r ≡ lines_of_read marked s p r
 lines-alike marked s p q r is =
-    ap₂ (λ n w. lines_of_read marked s (place q.desk n w) r) is.steps is.wanted
-    ∙ (sym (append-nil (lines_of_read marked s (place q.desk p.steps p.wanted) r))
-    ∙ (no-order marked p.desk q.desk p.steps p.wanted ((r, s) ∷ []) is.desks
-    ∙ append-nil (lines_of_read marked s (place p.desk p.steps p.wanted) r)))
+    ap₂ (λ n w. lines_of_read marked s (place q.desk n w) r) is.lines is.wanted
+    ∙ (sym (append-nil (lines_of_read marked s (place q.desk p.lines p.wanted) r))
+    ∙ (no-order marked p.desk q.desk p.lines p.wanted ((r, s) ∷ []) is.desks
+    ∙ append-nil (lines_of_read marked s (place p.desk p.lines p.wanted) r)))
 
 -- ---- what a mapper has taken
 

@@ -91,4 +91,4 @@ pub stands_first : {D : Type 0} {desk : D → Desk} {marked : Bool} {drawn : D} 
     → Stands desk marked (place d 0 false) s
 stands_first {D} {desk} {marked} {drawn} {s} d alike first =
     let P : D → Type 0 = λ z. IsReordered d (desk z) in
-    record { desk_is = subst P (sym first.drawn_is) alike; steps = first.steps; wanted = first.wanted; marked_is = first.marked_is }
+    record { desk_is = subst P (sym first.drawn_is) alike; lines = first.lines; wanted = first.wanted; marked_is = first.marked_is }

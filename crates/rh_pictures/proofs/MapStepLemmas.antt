@@ -66,35 +66,38 @@ step-shown wanted n line d e s c r is like =
 -- ---- what a mapper has offered of a line
 
 module _ {D : Type 0} (desk : D → Desk) (m : Mapper D) (line : Text) (old : List ℕ) where
-  -- a line that asks for nothing
-  pub offers-none : (n : Mapper D) (new : List ℕ) (s : Share) → IsShared s (desk n.drawn) → n.drawn ≡ m.drawn → n.marked ≡ m.marked → n.steps ≡ m.steps
-      → n.wanted ≡ (m.wanted || is_mark line) → n.has_bad_line ≡ m.has_bad_line
-      → new ≡ old ++ written_lines (lines_of_read m.marked s (place_in desk m) (line, Ok None)) → Offers desk m line (Ok None) n old new
-  offers-none n new s shared drawn marked steps wanted bad offered = record {
-    share = s;
-    shared = shared-as desk s m.drawn n.drawn drawn shared;
-    offered = offered;
-    follows = record {
-      desk_is = reordered-as desk m.drawn n.drawn drawn;
-      marked_is = marked;
-      steps = steps;
-      wanted = wanted;
-      bad = bad ∙ or-off m.has_bad_line;
-    };
-  }
+  -- a line that asks for nothing, where a mapper has counted it, and then noted whether it marks the next command
+  pub skipped-none : (b : Mapper D) (w : Bool) → b ≡ record m { lines = m.lines + 1; wanted = false } → w ≡ (m.wanted || is_mark line)
+      → (new : List ℕ) (s : Share) → IsShared s (desk b.drawn)
+      → new ≡ old ++ written_lines (lines_of_read m.marked s (place_in desk m) (line, Ok None))
+      → Offers desk m line (Ok None) (record b { wanted = w }) old new
+  skipped-none b w next wanted new s shared offered =
+      let drawn = ap (λ (z : Mapper D). z.drawn) next in
+      record {
+        share = s;
+        shared = shared-as desk s m.drawn b.drawn drawn shared;
+        offered = offered;
+        follows = record {
+          desk_is = reordered-as desk m.drawn b.drawn drawn;
+          marked_is = ap (λ (z : Mapper D). z.marked) next;
+          lines = ap (λ (z : Mapper D). z.lines) next;
+          wanted = wanted;
+          bad = ap (λ (z : Mapper D). z.has_bad_line) next ∙ or-off m.has_bad_line;
+        };
+      }
 
   -- a command
   offers-command : (c : Command) (n : Mapper D) (new : List ℕ) (s : Share) → IsReordered (step (desk m.drawn) c).0 (desk n.drawn) → IsShared s (desk n.drawn)
-      → n.marked ≡ m.marked → n.steps ≡ m.steps + 1 → n.wanted ≡ false → n.has_bad_line ≡ m.has_bad_line
+      → n.marked ≡ m.marked → n.lines ≡ m.lines + 1 → n.wanted ≡ false → n.has_bad_line ≡ m.has_bad_line
       → new ≡ old ++ written_lines (lines_of_read m.marked s (place_in desk m) (line, Ok (Some c))) → Offers desk m line (Ok (Some c)) n old new
-  offers-command c n new s is shared marked steps wanted bad offered = record {
+  offers-command c n new s is shared marked lines wanted bad offered = record {
     share = s;
     shared = shared-alike s is shared;
     offered = offered;
     follows = record {
       desk_is = is;
       marked_is = marked;
-      steps = steps;
+      lines = lines;
       wanted = wanted;
       bad = bad ∙ or-off m.has_bad_line;
     };
@@ -102,16 +105,16 @@ module _ {D : Type 0} (desk : D → Desk) (m : Mapper D) (line : Text) (old : Li
 
   -- a bad line
   offers-fault : (f : LineFault) (n : Mapper D) (new : List ℕ) (s : Share) → IsShared s (desk n.drawn) → n.drawn ≡ m.drawn → n.marked ≡ m.marked
-      → n.steps ≡ m.steps + 1 → n.wanted ≡ false → n.has_bad_line ≡ true
+      → n.lines ≡ m.lines + 1 → n.wanted ≡ false → n.has_bad_line ≡ true
       → new ≡ old ++ written_lines (lines_of_read m.marked s (place_in desk m) (line, Err f)) → Offers desk m line (Err f) n old new
-  offers-fault f n new s shared drawn marked steps wanted bad offered = record {
+  offers-fault f n new s shared drawn marked lines wanted bad offered = record {
     share = s;
     shared = shared-as desk s m.drawn n.drawn drawn shared;
     offered = offered;
     follows = record {
       desk_is = reordered-as desk m.drawn n.drawn drawn;
       marked_is = marked;
-      steps = steps;
+      lines = lines;
       wanted = wanted;
       bad = bad ∙ or-on m.has_bad_line;
     };
@@ -137,7 +140,7 @@ module _ {D : Type 0} {desk : D → Desk} {m n : Mapper D} {old new : List ℕ} 
         follows = record {
           desk_is = subst R (sym after) offers.follows.desk_is;
           marked_is = offers.follows.marked_is;
-          steps = offers.follows.steps ∙ ap (λ (z : Place). z.steps) (sym after);
+          lines = offers.follows.lines ∙ ap (λ (z : Place). z.lines) (sym after);
           wanted = offers.follows.wanted ∙ ap (λ (z : Place). z.wanted) (sym after);
           bad = offers.follows.bad ∙ ap (λ z. m.has_bad_line || z) (sym bad);
         };
@@ -189,21 +192,21 @@ rest-none desk m old (b ∷ bs) none = let no : length (b ∷ bs) ≡ 0 = eqb-tr
 
 -- a mapper that has counted one more step
 abbrev pub Counts : {D : Type 0} → Mapper D → Mapper D → Type 0
-Counts m b = b ≡ record m { steps = m.steps + 1; wanted = false }
+Counts m b = b ≡ record m { lines = m.lines + 1; wanted = false }
 
 -- all but what is drawn is the same
 pub record IsRest {D : Type 0} (b a : Mapper D) : Type 0 where
   pub marked : a.marked ≡ b.marked
-  pub steps : a.steps ≡ b.steps
+  pub lines : a.lines ≡ b.lines
   pub wanted : a.wanted ≡ b.wanted
   pub bad : a.has_bad_line ≡ b.has_bad_line
 
 -- the rest is of one mapper where what it draws with may be of another
 pub rest-as : {D : Type 0} {b a : Mapper D} (k : Mapper D)
-    → a ≡ record k { marked = b.marked; steps = b.steps; wanted = b.wanted; has_bad_line = b.has_bad_line } → IsRest b a
+    → a ≡ record k { marked = b.marked; lines = b.lines; wanted = b.wanted; has_bad_line = b.has_bad_line } → IsRest b a
 rest-as {D} k e = record {
   marked = ap (λ (z : Mapper D). z.marked) e;
-  steps = ap (λ (z : Mapper D). z.steps) e;
+  lines = ap (λ (z : Mapper D). z.lines) e;
   wanted = ap (λ (z : Mapper D). z.wanted) e;
   bad = ap (λ (z : Mapper D). z.has_bad_line) e;
 }
@@ -223,40 +226,40 @@ module _ {D : Type 0} (desk : D → Desk) (m b : Mapper D) (line : Text) (old : 
   hidden-command c n s test is rest shared =
       let P : D → Type 0 = λ z. IsReordered (step (desk z) c).0 (desk n.drawn) in
       offers-command desk m line old c n old s (subst P (ap (λ (z : Mapper D). z.drawn) counts) is) shared
-      (rest.marked ∙ ap (λ (z : Mapper D). z.marked) counts) (rest.steps ∙ ap (λ (z : Mapper D). z.steps) counts)
+      (rest.marked ∙ ap (λ (z : Mapper D). z.marked) counts) (rest.lines ∙ ap (λ (z : Mapper D). z.lines) counts)
       (rest.wanted ∙ ap (λ (z : Mapper D). z.wanted) counts) (rest.bad ∙ ap (λ (z : Mapper D). z.has_bad_line) counts)
       (nothing-offered _ test)
 
-  pub hidden-fault : (f : LineFault) (n : Mapper D) (s : Share) → (b.marked && not w) ≡ true → n.drawn ≡ b.drawn → n.marked ≡ b.marked → n.steps ≡ b.steps
+  pub hidden-fault : (f : LineFault) (n : Mapper D) (s : Share) → (b.marked && not w) ≡ true → n.drawn ≡ b.drawn → n.marked ≡ b.marked → n.lines ≡ b.lines
       → n.wanted ≡ b.wanted → n.has_bad_line ≡ true → IsShared s (desk n.drawn) → Offers desk m line (Err f) n old old
-  hidden-fault f n s test drawn marked steps wanted bad shared =
+  hidden-fault f n s test drawn marked lines wanted bad shared =
       offers-fault desk m line old f n old s shared (drawn ∙ ap (λ (z : Mapper D). z.drawn) counts)
-      (marked ∙ ap (λ (z : Mapper D). z.marked) counts) (steps ∙ ap (λ (z : Mapper D). z.steps) counts) (wanted ∙ ap (λ (z : Mapper D). z.wanted) counts) bad
+      (marked ∙ ap (λ (z : Mapper D). z.marked) counts) (lines ∙ ap (λ (z : Mapper D). z.lines) counts) (wanted ∙ ap (λ (z : Mapper D). z.wanted) counts) bad
       (nothing-offered _ test)
 
   -- the lines of a command that is shown
   pub command-text : (c : Command) (s : Share) (a : Mapper D) (k : Before) (r : Reply) → (b.marked && not w) ≡ false
-      → IsReordered (step (desk b.drawn) c).0 (desk a.drawn) → IsLikeReply (desk b.drawn) c r → k ≡ before_of (desk b.drawn) (Some c) → a.steps ≡ b.steps
-      → lines_of_step w a.steps line (reply_to (desk b.drawn) c) (desk a.drawn) s k (Some c) r
+      → IsReordered (step (desk b.drawn) c).0 (desk a.drawn) → IsLikeReply (desk b.drawn) c r → k ≡ before_of (desk b.drawn) (Some c) → a.lines ≡ b.lines
+      → lines_of_step w a.lines line (reply_to (desk b.drawn) c) (desk a.drawn) s k (Some c) r
       ≡ lines_of_read m.marked s (place_in desk m) (line, Ok (Some c))
-  command-text c s a k r test is like kept steps =
+  command-text c s a k r test is like kept lines =
       let drawn = ap (λ (z : Mapper D). desk z.drawn) counts in
-      ap₂ (λ x y. lines_of_step x a.steps line (reply_to (desk b.drawn) c) (desk a.drawn) s y (Some c) r) was kept
-      ∙ (step-shown m.wanted a.steps line (desk b.drawn) (desk a.drawn) s c r is like
-      ∙ (ap₂ (λ n z. command_lines m.wanted s n line c (before_of z (Some c)) (step z c)) (steps ∙ ap (λ (z : Mapper D). z.steps) counts) drawn
+      ap₂ (λ x y. lines_of_step x a.lines line (reply_to (desk b.drawn) c) (desk a.drawn) s y (Some c) r) was kept
+      ∙ (step-shown m.wanted a.lines line (desk b.drawn) (desk a.drawn) s c r is like
+      ∙ (ap₂ (λ n z. command_lines m.wanted s n line c (before_of z (Some c)) (step z c)) (lines ∙ ap (λ (z : Mapper D). z.lines) counts) drawn
       ∙ sym (when-on (shown-test test))))
 
   -- those of a bad line
   pub fault-text : (f : LineFault) (s : Share) (a : Mapper D) (k : Before) → (b.marked && not w) ≡ false → a.drawn ≡ b.drawn
-      → k ≡ before_of (desk b.drawn) None → a.steps ≡ b.steps
-      → lines_of_step w a.steps line (fault_text f) (desk a.drawn) s k None Done
+      → k ≡ before_of (desk b.drawn) None → a.lines ≡ b.lines
+      → lines_of_step w a.lines line (fault_text f) (desk a.drawn) s k None Done
       ≡ lines_of_read m.marked s (place_in desk m) (line, Err f)
-  fault-text f s a k test drawn kept steps =
+  fault-text f s a k test drawn kept lines =
       let same = ap desk drawn ∙ ap (λ (z : Mapper D). desk z.drawn) counts in
-      ap₂ (λ x y. lines_of_step x a.steps line (fault_text f) (desk a.drawn) s y None Done) was
+      ap₂ (λ x y. lines_of_step x a.lines line (fault_text f) (desk a.drawn) s y None Done) was
       (kept ∙ ap (λ (z : Mapper D). before_of (desk z.drawn) None) counts)
       ∙ (ap₂ (λ n z. lines_of_step m.wanted n line (fault_text f) z s (before_of (desk m.drawn) None) None Done)
-      (steps ∙ ap (λ (z : Mapper D). z.steps) counts) same
+      (lines ∙ ap (λ (z : Mapper D). z.lines) counts) same
       ∙ sym (when-on (shown-test test)))
 
   module _ (a n : Mapper D) (new : List ℕ) (s : Share) (same : IsSamePlace a n) (shared : IsShared s (desk a.drawn)) where
@@ -272,18 +275,18 @@ module _ {D : Type 0} (desk : D → Desk) (m b : Mapper D) (line : Text) (old : 
         let now = subst Q (sym same.drawn_is) (subst P (ap (λ (z : Mapper D). z.drawn) counts) is) in
         offers-command desk m line old c n new s now there
         (same.marked_is ∙ (rest.marked ∙ ap (λ (z : Mapper D). z.marked) counts))
-        (same.steps ∙ (rest.steps ∙ ap (λ (z : Mapper D). z.steps) counts))
+        (same.lines ∙ (rest.lines ∙ ap (λ (z : Mapper D). z.lines) counts))
         (same.wanted ∙ (rest.wanted ∙ ap (λ (z : Mapper D). z.wanted) counts))
         (same.bad ∙ (rest.bad ∙ ap (λ (z : Mapper D). z.has_bad_line) counts))
 
     -- a bad line was shown
-    pub told-fault : (f : LineFault) → a.drawn ≡ b.drawn → a.marked ≡ b.marked → a.steps ≡ b.steps → a.wanted ≡ b.wanted → a.has_bad_line ≡ true
+    pub told-fault : (f : LineFault) → a.drawn ≡ b.drawn → a.marked ≡ b.marked → a.lines ≡ b.lines → a.wanted ≡ b.wanted → a.has_bad_line ≡ true
         → new ≡ old ++ written_lines (lines_of_read m.marked s (place_in desk m) (line, Err f)) → Offers desk m line (Err f) n old new
-    told-fault f drawn marked steps wanted bad =
+    told-fault f drawn marked lines wanted bad =
         let now = same.drawn_is ∙ (drawn ∙ ap (λ (z : Mapper D). z.drawn) counts) in
         offers-fault desk m line old f n new s there now
         (same.marked_is ∙ (marked ∙ ap (λ (z : Mapper D). z.marked) counts))
-        (same.steps ∙ (steps ∙ ap (λ (z : Mapper D). z.steps) counts))
+        (same.lines ∙ (lines ∙ ap (λ (z : Mapper D). z.lines) counts))
         (same.wanted ∙ (wanted ∙ ap (λ (z : Mapper D). z.wanted) counts))
         (same.bad ∙ bad)
 
@@ -297,7 +300,7 @@ fault-from {m = m} offers = record {
   follows = record {
     desk_is = offers.follows.desk_is;
     marked_is = offers.follows.marked_is;
-    steps = offers.follows.steps;
+    lines = offers.follows.lines;
     wanted = offers.follows.wanted;
     bad = offers.follows.bad ∙ or-on m.has_bad_line;
   };

@@ -54,22 +54,22 @@ shared-alike s {a} {b} is shared =
 -- the same places but for the order
 pub record SamePlaces (p q : Place) : Type 0 where
   pub desks : IsReordered p.desk q.desk
-  pub steps : q.steps ≡ p.steps
+  pub lines : q.lines ≡ p.lines
   pub wanted : q.wanted ≡ p.wanted
 
 -- a line leads on from both
 pub places-alike : (p q : Place) (r : Read) → SamePlaces p q → SamePlaces (after_read p r) (after_read q r)
 places-alike p q (line, Ok None) is = record {
   desks = is.desks;
-  steps = is.steps;
+  lines = ap (λ n. n + 1) is.lines;
   wanted = ap (λ w. w || is_mark line) is.wanted;
 }
 places-alike p q (line, Ok (Some c)) is = record {
   desks = (order-ignored p.desk q.desk c is.desks).desks;
-  steps = ap (λ n. n + 1) is.steps;
+  lines = ap (λ n. n + 1) is.lines;
   wanted = refl;
 }
-places-alike p q (line, Err fault) is = record { desks = is.desks; steps = ap (λ n. n + 1) is.steps; wanted = refl }
+places-alike p q (line, Err fault) is = record { desks = is.desks; lines = ap (λ n. n + 1) is.lines; wanted = refl }
 
 -- where some lines lead
 abbrev pub after_reads : Place → List Read → Place

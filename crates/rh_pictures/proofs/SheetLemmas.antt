@@ -43,7 +43,7 @@ module _ (line : Text) (long : longest_line < length line) where
   pub happened-kept : (marked : Bool) (x : Walk) (h : Happened) → happened_text marked x (kept line) h ≡ happened_text marked x line h
   happened-kept marked x h =
       ap (λ text. where_so (is_shown marked x x.place.wanted) (opening x ++ text))
-      (step-kept (h.still && not x.place.wanted) (x.place.steps + 1) h.reply h.scene (noted (x.place.steps + 1) h.scene x.notes) x.last)
+      (step-kept (h.still && not x.place.wanted) (x.place.lines + 1) h.reply h.scene (noted (x.place.lines + 1) h.scene x.notes) x.last)
 
 -- ---- how a sheet shows a line
 

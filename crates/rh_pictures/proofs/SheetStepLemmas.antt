@@ -35,24 +35,24 @@ either-way false m n = refl
 -- ---- where a sheet stands behind a step
 
 module _ (d e : Desk) (p : PaintStand) (notes : List Note) (h : Happened) where
-  as-shown : (r : Read) → (after_read (place d p.steps p.wanted) r).steps ≡ p.steps + 1 → (after_read (place d p.steps p.wanted) r).wanted ≡ false
-      → walk_at e (stand_behind true h.still p) (noted (p.steps + 1) h.scene notes) ≡ at_desk e (behind_step true (walk_at d p notes) r h)
-  as-shown r steps wanted =
-      ap₂ (λ last opened. record (walk_at e (stand_behind true h.still p) (noted (p.steps + 1) h.scene notes)) { last = last; opened = opened })
+  as-shown : (r : Read) → (after_read (place d p.lines p.wanted) r).lines ≡ p.lines + 1 → (after_read (place d p.lines p.wanted) r).wanted ≡ false
+      → walk_at e (stand_behind true h.still p) (noted (p.lines + 1) h.scene notes) ≡ at_desk e (behind_step true (walk_at d p notes) r h)
+  as-shown r lines wanted =
+      ap₂ (λ last opened. record (walk_at e (stand_behind true h.still p) (noted (p.lines + 1) h.scene notes)) { last = last; opened = opened })
       (either-way (h.still && not p.wanted) p.last (p.shown + 1)) (and-off p.opened)
-      ∙ ap₂ (λ n w. at_desk e (record (behind_step true (walk_at d p notes) r h) { place = place e n w })) (sym steps) (sym wanted)
+      ∙ ap₂ (λ n w. at_desk e (record (behind_step true (walk_at d p notes) r h) { place = place e n w })) (sym lines) (sym wanted)
 
-  as-left : (r : Read) → (after_read (place d p.steps p.wanted) r).steps ≡ p.steps + 1 → (after_read (place d p.steps p.wanted) r).wanted ≡ false
-      → walk_at e (stand_behind false h.still p) (noted (p.steps + 1) h.scene notes) ≡ at_desk e (behind_step false (walk_at d p notes) r h)
-  as-left r steps wanted =
-      ap (λ opened. record (walk_at e (stand_behind false h.still p) (noted (p.steps + 1) h.scene notes)) { opened = opened }) (and-on p.opened)
-      ∙ ap₂ (λ n w. at_desk e (record (behind_step false (walk_at d p notes) r h) { place = place e n w })) (sym steps) (sym wanted)
+  as-left : (r : Read) → (after_read (place d p.lines p.wanted) r).lines ≡ p.lines + 1 → (after_read (place d p.lines p.wanted) r).wanted ≡ false
+      → walk_at e (stand_behind false h.still p) (noted (p.lines + 1) h.scene notes) ≡ at_desk e (behind_step false (walk_at d p notes) r h)
+  as-left r lines wanted =
+      ap (λ opened. record (walk_at e (stand_behind false h.still p) (noted (p.lines + 1) h.scene notes)) { opened = opened }) (and-on p.opened)
+      ∙ ap₂ (λ n w. at_desk e (record (behind_step false (walk_at d p notes) r h) { place = place e n w })) (sym lines) (sym wanted)
 
-  behind-stand : (shown : Bool) (r : Read) → (after_read (place d p.steps p.wanted) r).steps ≡ p.steps + 1
-      → (after_read (place d p.steps p.wanted) r).wanted ≡ false
-      → walk_at e (stand_behind shown h.still p) (noted (p.steps + 1) h.scene notes) ≡ at_desk e (behind_step shown (walk_at d p notes) r h)
-  behind-stand true r steps wanted = as-shown r steps wanted
-  behind-stand false r steps wanted = as-left r steps wanted
+  behind-stand : (shown : Bool) (r : Read) → (after_read (place d p.lines p.wanted) r).lines ≡ p.lines + 1
+      → (after_read (place d p.lines p.wanted) r).wanted ≡ false
+      → walk_at e (stand_behind shown h.still p) (noted (p.lines + 1) h.scene notes) ≡ at_desk e (behind_step shown (walk_at d p notes) r h)
+  behind-stand true r lines wanted = as-shown r lines wanted
+  behind-stand false r lines wanted = as-left r lines wanted
 
 -- ---- what a step has done
 
@@ -72,7 +72,7 @@ module _ {D : Type 0} (desk : D → Desk) (m b n : Painter D) (o p : List ℕ) (
 
   -- it is what a line with a step does
   module _ (meaning : Meaning (Option Command)) (happened now : Share → Happened) (same : (s : Share) → happened s ≡ now s)
-      (steps : (after_read (walk_in desk m).place (line, meaning)).steps ≡ m.progress.steps + 1)
+      (lines : (after_read (walk_in desk m).place (line, meaning)).lines ≡ m.progress.lines + 1)
       (wanted : (after_read (walk_in desk m).place (line, meaning)).wanted ≡ false)
       (desk-is : IsReordered (after_read (walk_in desk m).place (line, meaning)).desk (desk b.drawn))
       (bad : b.has_bad_line ≡ (m.has_bad_line || is_err meaning))
@@ -80,7 +80,7 @@ module _ {D : Type 0} (desk : D → Desk) (m b n : Painter D) (o p : List ℕ) (
       (walk-is : (s : Share) → behind_read m.marked s (walk_in desk m) (line, meaning) ≡ behind_happened m.marked (walk_in desk m) (line, meaning) (now s))
       (took : TookStep desk b o p line happened n) where
     follows : ComesTo b (stand_behind (is_shown b.marked (walk_in desk b) b.progress.wanted) (happened took.share).still b.progress)
-        (noted (b.progress.steps + 1) (happened took.share).scene b.notes.items) n
+        (noted (b.progress.lines + 1) (happened took.share).scene b.notes.items) n
         → FollowsPainting desk m took.share (line, meaning) n
     follows comes =
         let P : D → Type 0 = λ z. IsReordered (after_read (walk_in desk m).place (line, meaning)).desk (desk z) in
@@ -90,9 +90,9 @@ module _ {D : Type 0} (desk : D → Desk) (m b n : Painter D) (o p : List ℕ) (
               ap₂ (λ q notes. walk_at (desk n.drawn) q notes) comes.progress_is comes.notes_are
               ∙ (ap₂ (λ marked (w : PaintStand × List Note). walk_at (desk n.drawn)
               (stand_behind (nat_lt w.0.shown MOST_STEPS && (not marked || w.0.wanted)) (happened took.share).still w.0)
-              (noted (w.0.steps + 1) (happened took.share).scene w.1)) rest.marked (ap₂ (λ q notes. (q, notes)) rest.progress rest.notes)
+              (noted (w.0.lines + 1) (happened took.share).scene w.1)) rest.marked (ap₂ (λ q notes. (q, notes)) rest.progress rest.notes)
               ∙ (behind-stand (desk m.drawn) (desk n.drawn) m.progress m.notes.items (happened took.share)
-              (is_shown m.marked (walk_in desk m) m.progress.wanted) (line, meaning) steps wanted
+              (is_shown m.marked (walk_in desk m) m.progress.wanted) (line, meaning) lines wanted
               ∙ ap (at_desk (desk n.drawn)) (ap (behind_happened m.marked (walk_in desk m) (line, meaning)) (same took.share) ∙ sym (walk-is took.share))));
           marked_is = comes.marked_is ∙ rest.marked;
           bad = comes.bad ∙ bad;
@@ -140,13 +140,17 @@ module _ {D : Type 0} (desk : D → Desk) (m b n : Painter D) (o p : List ℕ) (
 module _ {D : Type 0} (desk : D → Desk) (m n : Painter D) (o : List ℕ) (line : Text) (drawn : n.drawn ≡ m.drawn) (marked : n.marked ≡ m.marked)
     (notes : n.notes.items ≡ m.notes.items) (bad : n.has_bad_line ≡ m.has_bad_line) where
   -- behind it
-  skipped-behind : (opened : Bool) → n.progress ≡ record m.progress { wanted = m.progress.wanted || is_mark line; opened = opened }
+  skipped-behind : (opened : Bool)
+      → n.progress ≡ record m.progress { lines = m.progress.lines + 1; wanted = m.progress.wanted || is_mark line; opened = opened }
       → opened ≡ (m.progress.opened || is_shown_remark m.marked (walk_in desk m) line) → (s : Share) → FollowsPainting desk m s (line, Ok None) n
   skipped-behind opened progress opened-is s = record {
     desk_is = reordered-as desk m.drawn n.drawn drawn;
     walk_is =
-        ap₂ (λ q ns. walk_at (desk n.drawn) q ns) (progress ∙ ap (λ b. record m.progress { wanted = m.progress.wanted || is_mark line; opened = b })
-        opened-is) notes;
+        ap₂ (λ q ns. walk_at (desk n.drawn) q ns) (progress ∙ ap (λ b. record m.progress {
+          lines = m.progress.lines + 1;
+          wanted = m.progress.wanted || is_mark line;
+          opened = b;
+        }) opened-is) notes;
     marked_is = marked;
     bad = bad ∙ or-off m.has_bad_line;
   }
@@ -157,7 +161,8 @@ module _ {D : Type 0} (desk : D → Desk) (m n : Painter D) (o : List ℕ) (line
       ≡ where_so (is_shown_remark m.marked (walk_in desk m) line) (opening (walk_in desk m) ++ remark_text line)
   remark-text b test = ap (λ z. where_so z (opening (walk_in desk m) ++ remark_text line)) (sym test)
 
-  pub skip-hidden : n.progress ≡ record m.progress { wanted = m.progress.wanted || is_mark line } → is_shown_remark m.marked (walk_in desk m) line ≡ false
+  pub skip-hidden : n.progress ≡ record m.progress { lines = m.progress.lines + 1; wanted = m.progress.wanted || is_mark line }
+      → is_shown_remark m.marked (walk_in desk m) line ≡ false
       → (s : Share) → IsShared s (desk m.drawn) → DrewLine desk m o line (Ok None) n o
   skip-hidden progress test s shared = record {
     share = s;
@@ -166,7 +171,8 @@ module _ {D : Type 0} (desk : D → Desk) (m n : Painter D) (o : List ℕ) (line
     follows = skipped-behind m.progress.opened progress (or-off m.progress.opened ∙ ap (λ b. m.progress.opened || b) (sym test)) s;
   }
 
-  pub skip-shown : {p : List ℕ} → n.progress ≡ record m.progress { wanted = m.progress.wanted || is_mark line; opened = true }
+  pub skip-shown : {p : List ℕ}
+      → n.progress ≡ record m.progress { lines = m.progress.lines + 1; wanted = m.progress.wanted || is_mark line; opened = true }
       → is_shown_remark m.marked (walk_in desk m) line ≡ true → (s : Share) → IsShared s (desk m.drawn)
       → p ≡ o ++ (opening (walk_in desk m) ++ remark_text line) → DrewLine desk m o line (Ok None) n p
   skip-shown progress test s shared offered = record {
@@ -178,21 +184,21 @@ module _ {D : Type 0} (desk : D → Desk) (m n : Painter D) (o : List ℕ) (line
 
 -- ---- a step, offered or left out
 
--- the second painter has counted one more command than the first, and noted the messages behind it
+-- the second painter has counted one line more than the first, and noted the messages behind it
 pub record IsNoted {D : Type 0} (m b : Painter D) (happened : Share → Happened) : Type 0 where
   pub drawn : b.drawn ≡ m.drawn
   pub marked : b.marked ≡ m.marked
   pub bad : b.has_bad_line ≡ m.has_bad_line
-  pub progress : b.progress ≡ record m.progress { steps = m.progress.steps + 1; wanted = false }
-  pub notes : (s : Share) → b.notes.items ≡ noted (m.progress.steps + 1) (happened s).scene m.notes.items
+  pub progress : b.progress ≡ record m.progress { lines = m.progress.lines + 1; wanted = false }
+  pub notes : (s : Share) → b.notes.items ≡ noted (m.progress.lines + 1) (happened s).scene m.notes.items
 
 module _ {D : Type 0} (desk : D → Desk) (m b n : Painter D) (o p : List ℕ) (line : Text) (happened : Share → Happened) (w : Bool)
     (wanted : w ≡ m.progress.wanted) (is : IsNoted m b happened) where
   written-moved : (s : Share) → step_written (walk_in desk b) line w (happened s) ≡ shown_step (walk_in desk m) line (happened s)
   written-moved s =
       ap₂ (λ q notes. step_written (walk_at (desk b.drawn) q notes) line w (happened s)) is.progress (is.notes s)
-      ∙ ap (λ v. opening (walk_in desk m) ++ step_text ((happened s).still && not v) (m.progress.steps + 1) line (happened s).reply (happened s).scene
-      (noted (m.progress.steps + 1) (happened s).scene m.notes.items) m.progress.last) wanted
+      ∙ ap (λ v. opening (walk_in desk m) ++ step_text ((happened s).still && not v) (m.progress.lines + 1) line (happened s).reply (happened s).scene
+      (noted (m.progress.lines + 1) (happened s).scene m.notes.items) m.progress.last) wanted
 
   pub took-shown : is_shown m.marked (walk_in desk m) m.progress.wanted ≡ true → WroteStep desk b o p line w happened n
       → TookStep desk m o p line happened n

@@ -62,7 +62,7 @@ pub record Stands {D : Type 0} (desk : D → Desk) (marked : Bool) (x : Walk) (m
 stands-place : {D : Type 0} {desk : D → Desk} {marked : Bool} {x : Walk} {m : Painter D} → Stands desk marked x m → SamePlaces x.place (walk_in desk m).place
 stands-place is = record {
   desks = is.desk_is;
-  steps = ap (λ (w : Walk). w.place.steps) is.walk_is;
+  lines = ap (λ (w : Walk). w.place.lines) is.walk_is;
   wanted = ap (λ (w : Walk). w.place.wanted) is.walk_is;
 }
 
@@ -99,7 +99,7 @@ pub lines-alike : (marked : Bool) (a b : Desk) (x : Walk) (stages : List Stage) 
     → sheet_lines marked (at_desk b x) stages ≡ sheet_lines marked (at_desk a x) stages
 lines-alike marked a b x [] is = refl
 lines-alike marked a b x ((r, s) ∷ rest) is =
-    let places = places-alike (at_desk a x).place (at_desk b x).place r (record { desks = is; steps = refl; wanted = refl }) in
+    let places = places-alike (at_desk a x).place (at_desk b x).place r (record { desks = is; lines = refl; wanted = refl }) in
     let P : Place → Type 0 = λ z. IsReordered z.desk (after_read (at_desk b x).place r).desk in
     ap₂ (λ t u. t ++ u) (read-alike marked s x r is)
     (ap (λ w. sheet_lines marked w rest) (behind-alike marked s x r is)

@@ -12,13 +12,13 @@ use Rattle.rh_pictures.specs.declared.map.mapper.Mapper.{Mapper}
 
 -- where a map stands, by the desk that it looks at
 abbrev pub place_in : {D : Type 0} → (D → Desk) → Mapper D → Place
-place_in desk m = place (desk m.drawn) m.steps m.wanted
+place_in desk m = place (desk m.drawn) m.lines m.wanted
 
 -- a map that has taken no line
 pub record IsFirst {D : Type 0} (m : Mapper D) (drawn : D) (marked : Bool) : Type 0 where
   pub drawn_is : m.drawn ≡ drawn
   pub marked_is : m.marked ≡ marked
-  pub steps : m.steps ≡ 0
+  pub lines : m.lines ≡ 0
   pub wanted : m.wanted ≡ false
   pub well : m.has_bad_line ≡ false
 
@@ -26,7 +26,7 @@ pub record IsFirst {D : Type 0} (m : Mapper D) (drawn : D) (marked : Bool) : Typ
 pub record Follows {D : Type 0} (desk : D → Desk) (m : Mapper D) (r : Read) (n : Mapper D) : Type 0 where
   pub desk_is : IsReordered (after_read (place_in desk m) r).desk (desk n.drawn)
   pub marked_is : n.marked ≡ m.marked
-  pub steps : n.steps ≡ (after_read (place_in desk m) r).steps
+  pub lines : n.lines ≡ (after_read (place_in desk m) r).lines
   pub wanted : n.wanted ≡ (after_read (place_in desk m) r).wanted
   pub bad : n.has_bad_line ≡ (m.has_bad_line || is_err r.1)
 

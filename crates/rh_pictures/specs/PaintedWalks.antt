@@ -17,7 +17,7 @@ use Rattle.rh_pictures.specs.declared.sheet.painter.Painter.{Painter}
 -- where a sheet stands over a desk
 abbrev pub walk_at : Desk → PaintStand → List Note → Walk
 walk_at d p notes = record {
-  place = place d p.steps p.wanted;
+  place = place d p.lines p.wanted;
   shown = p.shown;
   last = p.last;
   left = p.left;

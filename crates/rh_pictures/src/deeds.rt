@@ -31,8 +31,8 @@ pub struct Deed<'a> {
     pub wanted: bool,
 }
 
-/// What stands above a figure: the step's number, its line of the script, the front of its reply and how many lines
-/// that has; and whether there is no figure, since memory stays as it is.
+/// What stands above a figure: the number of the step's line, the line itself, the front of its reply and how many
+/// lines that has; and whether there is no figure, since memory stays as it is.
 #[derive(Clone, Copy)]
 pub struct Above<'a> {
     pub number: u32,

@@ -260,7 +260,7 @@ happens : (marked : Bool) (x : Sheet.Walk) (r : Read) (line : Text) (h : Sheet.H
     → Same (read_on (between x.opened around) (Sheet.happened_text marked x line h)) (between (Sheet.behind_happened marked x r h).opened around)
 happens marked x r line h around = happened
     (Sheet.is_shown marked x x.place.wanted) x.opened (x.shown + 1) _ around
-    (step-ends (h.still && not x.place.wanted) (x.place.steps + 1) line h.reply h.scene (noted (x.place.steps + 1) h.scene x.notes) x.last around)
+    (step-ends (h.still && not x.place.wanted) (x.place.lines + 1) line h.reply h.scene (noted (x.place.lines + 1) h.scene x.notes) x.last around)
 
 -- one line
 pub line-ends : (marked : Bool) (s : Share) (x : Sheet.Walk) (r : Read) (around : List Text)

@@ -164,8 +164,8 @@ happens-alike : (marked : Bool) (x : Sheet.Walk) (line other : Text) (h : Sheet.
     → Alike (between x.opened around) (Sheet.happened_text marked x line h) (Sheet.happened_text marked x other h)
 happens-alike marked x line other h around = happened-alike
     (Sheet.is_shown marked x x.place.wanted) x.opened (x.shown + 1) _ _ around
-    (step-alike (h.still && not x.place.wanted) (x.place.steps + 1) line other h.reply h.reply h.scene
-    (noted (x.place.steps + 1) h.scene x.notes) x.last around)
+    (step-alike (h.still && not x.place.wanted) (x.place.lines + 1) line other h.reply h.reply h.scene
+    (noted (x.place.lines + 1) h.scene x.notes) x.last around)
 
 -- whether a remark is shown, by whether it has words and is a title
 abbrev shown-by : (marked : Bool) (x : Sheet.Walk) (none mark : Bool) → Bool
@@ -173,7 +173,7 @@ shown-by marked x none mark = not none && Sheet.is_shown marked x (x.place.wante
 
 abbrev walk-by : (marked : Bool) (x : Sheet.Walk) (none mark : Bool) → Sheet.Walk
 walk-by marked x none mark = record x {
-  place = place x.place.desk x.place.steps (x.place.wanted || mark);
+  place = place x.place.desk (x.place.lines + 1) (x.place.wanted || mark);
   opened = x.opened || shown-by marked x none mark;
 }
 

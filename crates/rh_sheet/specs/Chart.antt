@@ -1,6 +1,6 @@
 -- The chart of the last messages: a line down for each task, an arrow from the step at which a message was sent to the
 -- one at which it was taken, went back or vanished. Read Fates and Markup first.
--- d is the desk, n a note of a message, a an arrow, step the number of a step. `-` of naturals stops at 0: an arrow's
+-- d is the desk, n a note of a message, a an arrow, step the number of a step's line. `-` of naturals stops at 0: an arrow's
 -- end and its words lie in the figure (*tip_x*, *words_x*).
 use Rattle.std.specs.Prelude.{ℕ, ◌+◌, ◌-◌, ◌*◌, ◌/◌, ◌==◌, nat_lt, max, ◌&&◌, ◌||◌, not, Bool, if◌then◌else◌, List, [], ◌∷◌, ◌++◌, length, take, filter, codes, true, false, is_some}
 use Rattle.std.specs.List.{concat, flat_map}
@@ -236,15 +236,15 @@ arrow_words tasks steps step a = message_words
 
 -- ---- what is read out
 
--- what has become of a message, before the step at which it has
+-- what has become of a message, before the line at which it has
 abbrev pub fate_verb : Fate → Text
 fate_verb Queued = codes "waits"
-fate_verb Held = codes "held since "
-fate_verb Back = codes "not taken, back at "
-fate_verb Vanished = codes "vanished at "
-fate_verb _ = codes "taken at "
+fate_verb Held = codes "held since line "
+fate_verb Back = codes "not taken, back at line "
+fate_verb Vanished = codes "vanished at line "
+fate_verb _ = codes "taken at line "
 
--- and behind the step
+-- and behind the line
 abbrev pub vanished_note : Text → Bool → Text
 vanished_note who wants_answer = concat (
     codes ": " ∷ who ∷ codes " has died, and "
@@ -256,7 +256,7 @@ fate_note d a =
     if is_lost a.fate then vanished_note (task_name d a.to) a.wants_answer
     else where_so (is_answered a.fate) (codes ", and answered")
 
--- the step at which it has, where a message doesn't wait
+-- the line at which it has, where a message doesn't wait
 abbrev pub stop_text : Arrow → Text
 stop_text a = where_so (not (is_queued a.fate)) (decimal a.stop)
 
@@ -266,7 +266,7 @@ fate_sentence d a = concat (fate_verb a.fate ∷ stop_text a ∷ fate_note d a �
 -- an arrow as it is read out
 abbrev pub arrow_sentence : Desk → Arrow → Text
 arrow_sentence d a = concat (
-    a.words ∷ codes " from " ∷ task_name d a.from ∷ codes " to " ∷ task_name d a.to ∷ codes ", sent at " ∷ decimal a.start
+    a.words ∷ codes " from " ∷ task_name d a.from ∷ codes " to " ∷ task_name d a.to ∷ codes ", sent at line " ∷ decimal a.start
     ∷ codes ", " ∷ fate_sentence d a ∷ []
     )
 

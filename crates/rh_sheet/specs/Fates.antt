@@ -1,5 +1,5 @@
 -- What becomes of each of the last messages. Read Scene of rh_figure and Post of rh_defs first.
--- x is the scene behind a step, n a note of a message, step the number of a step, w where a message is behind a step,
+-- x is the scene behind a step, n a note of a message, step the number of a step's line, w where a message is behind a step,
 -- sent the letter of the step with its ref. `-` of naturals stops at 0: of a short list all notes are the last ones
 -- (*last_of*).
 use Rattle.std.specs.Prelude.{ℕ, ◌-◌, ◌==◌, ◌&&◌, not, Bool, true, false, if◌then◌else◌, List, [], ◌∷◌, ◌++◌, length, drop, map, find, Option, Some, None, is_some}
@@ -97,7 +97,7 @@ goes_back _ _ = false
 
 -- ---- notes
 
--- a step's number where something happened at it that had not happened yet
+-- a step where something happened at it that had not happened yet
 abbrev pub since : Bool → ℕ → ℕ → ℕ
 since happened step known = if happened && known == 0 then step else known
 

@@ -109,8 +109,8 @@ fault_happened s fault d = record {
 -- the step of a line that isn't skipped
 abbrev pub shown_step : Walk → Text → Happened → Text
 shown_step x line h = opening x ++ step_text
-    (h.still && not x.place.wanted) (x.place.steps + 1) line h.reply h.scene
-    (noted (x.place.steps + 1) h.scene x.notes) x.last
+    (h.still && not x.place.wanted) (x.place.lines + 1) line h.reply h.scene
+    (noted (x.place.lines + 1) h.scene x.notes) x.last
 
 -- where the sheet stands behind a line that isn't skipped, if it gets a step or not
 abbrev pub behind_step : Bool → Walk → Read → Happened → Walk
@@ -120,7 +120,7 @@ behind_step shown x r h = record {
   last = if shown && not (h.still && not x.place.wanted) then x.shown + 1 else x.last;
   left = if shown then x.left else x.left + 1;
   opened = x.opened && not shown;
-  notes = noted (x.place.steps + 1) h.scene x.notes;
+  notes = noted (x.place.lines + 1) h.scene x.notes;
 }
 
 -- what is written of a line that isn't skipped

@@ -1,5 +1,6 @@
 -- A step of a sheet: the command, its reply, what has changed, and the figure. Read Markup, SheetAreas, Pool, Chart and
--- Tables first. x is the scene, t a task, p a panel, step and n are numbers of steps.
+-- Tables first. x is the scene, t a task, p a panel, step is the number of a step's line in the
+-- script, n counts the steps that are shown.
 use Rattle.std.specs.Prelude.{ℕ, ◌+◌, ◌-◌, ◌==◌, nat_lt, ◌||◌, not, Bool, if◌then◌else◌, List, [], ◌∷◌, ◌++◌, length, drop, map, codes}
 use Rattle.std.specs.List.{concat, flat_map, join_by}
 use Rattle.std.specs.Fmt.{decimal}
@@ -65,13 +66,13 @@ command_text line = cut LINE_COLUMNS (map shown_byte line)
 abbrev pub reply_shown : Text → Text
 reply_shown reply = join_by (λ t. t) (codes "\n") (reply_lines (ended reply))
 
--- the step's number and its command
+-- the number of the step's line, and its command
 abbrev pub command_head : ℕ → Text → Text
 command_head step line = concat (
     codes "<h2><b>" ∷ decimal step ∷ codes "</b> <code>" ∷ escape (command_text line) ∷ codes "</code></h2>\n<pre>" ∷ []
     )
 
--- the step's number, its command and the reply
+-- the number of the step's line, its command and the reply
 abbrev pub said_text : ℕ → Text → Text → Text
 said_text step line reply =
     concat (command_head step line ∷ escape (reply_shown reply) ∷ codes "</pre>\n" ∷ [])

@@ -37,7 +37,7 @@ def test_sheet_steps(suite):
     script = b"areas\n" * 300 + b"#picture The last\nareas\n"
     output, page = page_of(suite, "one step of 301", ["draw", "--marked", "-"], 0, stdin=script)
     suite.is_true("the marked step", output.count(b"<section ") == 1 and "Commands not drawn: 300." in page.text)
-    suite.is_true("its number", b"<h2><b>301</b>" in output and b'class="memory"' in output)
+    suite.is_true("its number", b"<h2><b>302</b>" in output and b'class="memory"' in output)
 
 
 def test_sheet_names(suite):
@@ -81,21 +81,21 @@ SHEETS = [
     ], 0),
     (["draw", "-"], b"# A <task>\ntask a 100\nareas\ntsk\n", [
         "<section id=\"d1\">\n<div class=\"says\">\n<nav><span>&#9664;</span> <a href=\"#d2\">&#9654;</a>",
-        "<p class=\"remark\">A &lt;task&gt;</p>\n<h2><b>1</b> <code>task a 100</code></h2>\n<pre>ok 1</pre>\n",
+        "<p class=\"remark\">A &lt;task&gt;</p>\n<h2><b>2</b> <code>task a 100</code></h2>\n<pre>ok 1</pre>\n",
         "<div class=\"memory\">\n<svg ",
         "<section id=\"d2\">\n",
-        "<h2><b>2</b> <code>areas</code></h2>\n<pre>ok 62\n",
+        "<h2><b>3</b> <code>areas</code></h2>\n<pre>ok 62\n",
         "Memory stays as it is: see <a href=\"#d1\">the last figure</a>.</p>\n</div>\n</section>\n",
-        "<h2><b>3</b> <code>tsk</code></h2>\n<pre>bad Unknown</pre>\n",
+        "<h2><b>4</b> <code>tsk</code></h2>\n<pre>bad Unknown</pre>\n",
         "</main>\n<nav id=\"d4\">\n<a href=\"#d1\">1</a>\n<a href=\"#d2\">2</a>\n<a href=\"#d3\">3</a>\n</nav>\n",
     ], 1),
     (["draw", "--marked", "--pages", "8", "-"],
      b"# No remark\ntask a 100\n#picture One area\nmake 2\nareas\n#picture\nareas\n", [
         "<main>\n<section id=\"d1\">\n",
-        "<p class=\"title\">One area</p>\n<h2><b>2</b> <code>make 2</code></h2>\n<pre>ok 256</pre>\n",
+        "<p class=\"title\">One area</p>\n<h2><b>4</b> <code>make 2</code></h2>\n<pre>ok 256</pre>\n",
         "<h3><b>Area 256</b> 0 of at most 2 pages</h3>\n",
         "<section id=\"d2\">\n",
-        "<h2><b>4</b> <code>areas</code></h2>\n",
+        "<h2><b>7</b> <code>areas</code></h2>\n",
         "<div class=\"memory\">\n",
         "<p>Commands not drawn: 2.</p>\n</main>\n<nav id=\"d3\">\n",
     ], 0),

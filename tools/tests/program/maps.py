@@ -21,7 +21,7 @@ def test_maps(suite):
     lines = output.split(b"\n")
     suite.is_true("columns of a map", all(len(it) <= MAP_COLUMNS for it in lines) and lines[-1] == b"")
     suite.is_true("bytes of a map", all(32 <= byte <= 126 for it in lines for byte in it))
-    shown = [b"# <script>&\"'</script>", b"1  task a?<&> 0", b"bad Word 2", b"Slot Writer2 (a): task 1, buffer of 100, 1 page"]
+    shown = [b"# <script>&\"'</script>", b"4  task a?<&> 0", b"bad Word 2", b"Slot Writer2 (a): task 1, buffer of 100, 1 page"]
     suite.is_true("words in a map", all(it in lines for it in shown))
     suite.is_true("the end of a map", told == b"" and status == 1)
     suite.ends("no mark", ["map", "--marked", "-"], b"", b"", 0, stdin=b"# picture\ntask a 100\n")
@@ -80,7 +80,7 @@ def test_maps_and_sheets(suite):
 MARKED_MAP = """\
 #picture One area
 # of two pages
-2  make 2
+4  make 2
 ok 256
 
 Pool: 6 of 8 pages free
@@ -92,7 +92,7 @@ Module area (1): 1 page
 &1800000    7 |=...............................................................
 
 #picture
-4  tsk
+7  tsk
 bad Unknown
 
 Pool: 6 of 8 pages free
@@ -107,11 +107,11 @@ Module area (1): 1 page
 # The map of a script with a remark, a bad line and a line that is cut.
 CUT_MAP = """\
 # ? remark
-1  task a 0
+4  task a 0
 bad Word 3
   (memory stays)
 
-2  areas
+5  areas
 bad Unended
   (memory stays)
 

@@ -80,8 +80,8 @@ def test_long_scripts(suite):
     last = 2 * changes + 3
     for words, shown in [
         (["run", "-"], b"\n  slot a 2\n"),
-        (["map", "-"], b"\n%d  areas\nok 61\n" % last),
-        (["map", "--marked", "-"], b"\n%d  areas\nok 61\n" % last),
+        (["map", "-"], b"\n%d  areas\nok 61\n" % (last + 1)),
+        (["map", "--marked", "-"], b"\n%d  areas\nok 61\n" % (last + 1)),
         (["draw", "-"], b"<p>Commands not drawn: %d.</p>\n" % (last - 200)),
         (["draw", "--marked", "-"], b"<p>Commands not drawn: %d.</p>\n" % (last - 1)),
     ]:

@@ -20,8 +20,8 @@ use Rattle.rh_pictures.specs.PaintedWalks.{FollowsPainting, walk_in}
 -- behind a command that is shown or left out, and that leaves memory as it is or not
 abbrev pub stand_behind : Bool → Bool → PaintStand → PaintStand
 stand_behind true still p =
-    record (stand_shown (still && not p.wanted) p) { steps = p.steps + 1; wanted = false }
-stand_behind false still p = record p { steps = p.steps + 1; wanted = false; left = p.left + 1 }
+    record (stand_shown (still && not p.wanted) p) { lines = p.lines + 1; wanted = false }
+stand_behind false still p = record p { lines = p.lines + 1; wanted = false; left = p.left + 1 }
 
 -- the second has come so far and keeps these notes, and is else as the first
 pub record ComesTo {D : Type 0} (m : Painter D) (p : PaintStand) (notes : List Note) (n : Painter D) : Type 0 where
@@ -42,7 +42,7 @@ happened_at d s b c r reply = record { scene = scene_behind d s b c r; reply = r
 -- the text of a step that the sheet stands at
 abbrev pub step_written : Walk → Text → Bool → Happened → Text
 step_written x line wanted h =
-    opening x ++ step_text (h.still && not wanted) x.place.steps line h.reply h.scene x.notes x.last
+    opening x ++ step_text (h.still && not wanted) x.place.lines line h.reply h.scene x.notes x.last
 
 -- what a sheet has of one line of a script was offered to a pen, with some share of the pool behind it
 pub record DrewLine {D : Type 0} (desk : D → Desk) (m : Painter D) (old : List ℕ) (line : Text) (meaning : Meaning (Option Command)) (n : Painter D) (new : List ℕ) : Type 0 where
@@ -66,7 +66,7 @@ pub record TookStep {D : Type 0} (desk : D → Desk) (m : Painter D) (old new : 
   pub offered : new ≡ old ++ happened_text m.marked (walk_in desk m) line (happened share)
   pub comes :
       ComesTo m (stand_behind (is_shown m.marked (walk_in desk m) m.progress.wanted) (happened share).still m.progress)
-      (noted (m.progress.steps + 1) (happened share).scene m.notes.items) n
+      (noted (m.progress.lines + 1) (happened share).scene m.notes.items) n
 
 -- a step was left out, whatever its line, command and reply, and nothing of it was offered
 abbrev pub LeftStep : {D : Type 0} → (D → Desk) → Painter D → Before → Painter D → Type 0

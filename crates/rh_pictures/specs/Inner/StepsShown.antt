@@ -15,7 +15,7 @@ use Rattle.rh_pictures.specs.declared.map.mapper.Mapper.{Mapper}
 pub record IsSamePlace {D : Type 0} (m n : Mapper D) : Type 0 where
   pub drawn_is : n.drawn ≡ m.drawn
   pub marked_is : n.marked ≡ m.marked
-  pub steps : n.steps ≡ m.steps
+  pub lines : n.lines ≡ m.lines
   pub wanted : n.wanted ≡ m.wanted
   pub bad : n.has_bad_line ≡ m.has_bad_line
 

@@ -26,13 +26,13 @@ use rh_map::{Front, print_remark};
 use rh_scene::{Kept, Messages, PageList, is_still};
 use rh_session::{LineTaker, Status};
 
-/// A map in the middle of its script: what is drawn, whether marked steps alone are shown, how many steps are behind
-/// it, whether a mark was seen since the last, whether a line was bad; and what a step is drawn with.
+/// A map in the middle of its script: what is drawn, whether marked steps alone are shown, how many lines are behind
+/// it, whether a mark was seen since the last command, whether a line was bad; and what a step is drawn with.
 #[derive(Drop)]
 pub struct Mapper<D> {
     drawn: D,
     marked: bool,
-    steps: u32,
+    lines: u32,
     wanted: bool,
     has_bad_line: bool,
     messages: Messages,
@@ -49,7 +49,7 @@ impl<D: Drawn> Mapper<D> {
         Mapper {
             drawn,
             marked,
-            steps: 0,
+            lines: 0,
             wanted: false,
             has_bad_line: false,
             messages: ArrayVec::new(),
@@ -61,11 +61,13 @@ impl<D: Drawn> Mapper<D> {
 
     /// Shows a line that asks for nothing, and notes whether it marks the next command.
     fn skip<P: Pen>(&mut self, line: &[u8], pen: &mut P)
+        requires { self.old.lines + 1 < 2 ^ 32 }
         ensures told { Offers D.desk self.old line.now (Ok None) self.new (P.offered pen.old) (P.offered pen.new) }
-        ensures same { self.new.steps ≡ self.old.steps }
+        ensures lines { self.new.lines ≡ self.old.lines + 1 }
     {
+        let wanted = self.count_line();
         self.drawn.recall_desk();
-        self.wanted = is_wanted(self.wanted, line);
+        self.wanted = is_wanted(wanted, line);
         if and_not(self.marked, self.wanted) {
             return;
         }
@@ -75,12 +77,12 @@ impl<D: Drawn> Mapper<D> {
     /// Does the command of a line, and shows the step where it is to be shown.
     fn carry_out<P: Pen>(&mut self, line: &[u8], command: &Command, pen: &mut P)
         requires in_range { IsTrue (in_range command.now) }
-        requires room { self.old.steps + 1 < 2 ^ 32 }
+        requires room { self.old.lines + 1 < 2 ^ 32 }
         ensures told { Offers D.desk self.old line.now (Ok (Some command.now)) self.new (P.offered pen.old)
             (P.offered pen.new) }
-        ensures steps { self.new.steps ≡ self.old.steps + 1 }
+        ensures lines { self.new.lines ≡ self.old.lines + 1 }
     {
-        let wanted = self.begin_step();
+        let wanted = self.count_line();
         if and_not(self.marked, wanted) {
             change(&mut self.drawn, command);
             self.drawn.recall_desk();
@@ -101,13 +103,13 @@ impl<D: Drawn> Mapper<D> {
 
     /// Shows a line that is bad, where it is to be shown.
     fn refuse<P: Pen>(&mut self, line: &[u8], fault: &LineFault, pen: &mut P)
-        requires { self.old.steps + 1 < 2 ^ 32 }
+        requires { self.old.lines + 1 < 2 ^ 32 }
         ensures told { Offers D.desk self.old line.now (Err fault.now) self.new (P.offered pen.old)
             (P.offered pen.new) }
-        ensures steps { self.new.steps ≡ self.old.steps + 1 }
+        ensures lines { self.new.lines ≡ self.old.lines + 1 }
     {
         self.has_bad_line = true;
-        let wanted = self.begin_step();
+        let wanted = self.count_line();
         if and_not(self.marked, wanted) {
             self.drawn.recall_desk();
             return;
@@ -127,14 +129,14 @@ impl<D: Drawn> Mapper<D> {
         self.show(line, deed, pen);
     }
 
-    /// Counts one more step, and answers whether a mark asked for it.
-    fn begin_step(&mut self) -> bool
-        requires { self.old.steps + 1 < 2 ^ 32 }
+    /// Counts one more line, and answers whether a mark was seen since the last command.
+    fn count_line(&mut self) -> bool
+        requires { self.old.lines + 1 < 2 ^ 32 }
         ensures wanted { result ≡ self.old.wanted }
-        ensures next { self.new ≡ record self.old { steps = self.old.steps + 1; wanted = false } }
+        ensures next { self.new ≡ record self.old { lines = self.old.lines + 1; wanted = false } }
     {
         let wanted = self.wanted;
-        self.steps += 1;
+        self.lines += 1;
         self.wanted = false;
         wanted
     }
@@ -142,7 +144,7 @@ impl<D: Drawn> Mapper<D> {
     /// Writes a step, of which the reply's front stands in its place.
     fn show<P: Pen>(&mut self, line: &[u8], deed: Deed<'_>, pen: &mut P)
         ensures text { (text : List ℕ) → Excerpts (front_of self.old.front) deed.entry.count text
-            → P.offered pen.new ≡ P.offered pen.old ++ shown_lines (lines_of_step deed.entry.wanted self.old.steps
+            → P.offered pen.new ≡ P.offered pen.old ++ shown_lines (lines_of_step deed.entry.wanted self.old.lines
             line.now text (D.desk self.old.drawn) (share_in self.new.pages.items (D.desk self.old.drawn))
             deed.entry.kept.now (option_map (λ c. c.now) deed.entry.command) deed.entry.reply.now) }
         ensures shared { IsShared (share_in self.new.pages.items (D.desk self.old.drawn)) (D.desk self.old.drawn) }
@@ -159,7 +161,7 @@ impl<D: Drawn> Mapper<D> {
             &self.pages,
         );
         let above = Above {
-            number: self.steps,
+            number: self.lines,
             line,
             front: self.front.as_slice(),
             count: deed.count,
@@ -188,7 +190,7 @@ impl<D: Drawn> LineTaker for Mapper<D> {
 
     ghost took_rest = { TookRest D.desk };
 
-    ghost room = { λ m. 2 ^ 32 - 1 - m.steps };
+    ghost room = { λ m. 2 ^ 32 - 1 - m.lines };
 
     fn take_line<P: Pen>(&mut self, line: &[u8], pen: &mut P) {
         let mut command = Command::Ask(Question::Areas);

@@ -92,14 +92,14 @@ fn print_sentence<S: Sight, P: Pen>(sight: &S, way: &MessageArrow, pen: &mut P)
     add_who(&mut row, &who_of(sight, Handle(way.from)));
     row.text(b" to ");
     add_who(&mut row, &who_of(sight, Handle(way.to)));
-    row.text(b", sent at ");
+    row.text(b", sent at line ");
     row.decimal(way.start);
     row.text(b", ");
     add_fate(sight, &mut row, way);
     put_escaped(row.as_slice(), pen);
 }
 
-/// Adds what has become of a message, and at which step.
+/// Adds what has become of a message, and at which line.
 fn add_fate<S: Sight>(sight: &S, row: &mut Row, way: &MessageArrow)
     requires { length row.old + 104 ≤ ROW }
     ensures { row.new ≡ row.old ++ fate_sentence (S.desk sight.now) (arrow_of way.now) }
@@ -110,21 +110,21 @@ fn add_fate<S: Sight>(sight: &S, row: &mut Row, way: &MessageArrow)
     row.text(b". ");
 }
 
-/// What has become of a message, before the step.
+/// What has become of a message, before the number of the line.
 fn fate_verb(fate: Fate) -> &'static [u8]
     ensures value { result.now ≡ verb_of_fate fate }
-    ensures few { length result.now ≤ 19 }
+    ensures few { length result.now ≤ 24 }
 {
     match fate {
         Fate::Queued => b"waits",
-        Fate::Held => b"held since ",
-        Fate::Back => b"not taken, back at ",
-        Fate::Vanished => b"vanished at ",
-        _ => b"taken at ",
+        Fate::Held => b"held since line ",
+        Fate::Back => b"not taken, back at line ",
+        Fate::Vanished => b"vanished at line ",
+        _ => b"taken at line ",
     }
 }
 
-/// Adds the step at which it has, where a message doesn't wait.
+/// Adds the line at which it has, where a message doesn't wait.
 fn add_stop(row: &mut Row, way: &MessageArrow)
     requires { length row.old + 11 ≤ ROW }
     ensures value { row.new ≡ row.old ++ stop_text (arrow_of way.now) }

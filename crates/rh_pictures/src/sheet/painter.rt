@@ -88,12 +88,13 @@ impl<D: Drawn> Painter<D> {
 
     /// Shows a line that asks for nothing, and notes whether it marks the next command.
     fn skip<P: Pen>(&mut self, line: &[u8], pen: &mut P)
+        requires { self.old.progress.lines + 1 < 2 ^ 32 }
         ensures drew { DrewLine D.desk self.old (P.offered pen.old) line.now (Ok None) self.new (P.offered pen.new) }
-        ensures steps { self.new.progress.steps ≡ self.old.progress.steps }
+        ensures lines { self.new.progress.lines ≡ self.old.progress.lines + 1 }
     {
         self.drawn.recall_desk();
         let wanted = is_wanted(self.progress.wanted(), line);
-        self.progress.want(wanted);
+        self.progress.count_line(wanted);
         if !self.shows(line, wanted) {
             return;
         }
@@ -122,10 +123,10 @@ impl<D: Drawn> Painter<D> {
     /// Does the command of a line, and shows the step where it is to be shown.
     fn carry_out<P: Pen>(&mut self, line: &[u8], command: &Command, pen: &mut P)
         requires in_range { IsTrue (in_range command.now) }
-        requires room { self.old.progress.steps + 1 < 2 ^ 32 }
+        requires room { self.old.progress.lines + 1 < 2 ^ 32 }
         ensures drew { DrewLine D.desk self.old (P.offered pen.old) line.now (Ok (Some command.now)) self.new
             (P.offered pen.new) }
-        ensures steps { self.new.progress.steps ≡ self.old.progress.steps + 1 }
+        ensures lines { self.new.progress.lines ≡ self.old.progress.lines + 1 }
     {
         if !self.shows_next() {
             self.pass(command);
@@ -147,11 +148,11 @@ impl<D: Drawn> Painter<D> {
     /// Does a command whose step is left out.
     fn pass(&mut self, command: &Command)
         requires in_range { IsTrue (in_range command.now) }
-        requires room { self.old.progress.steps + 1 < 2 ^ 32 }
+        requires room { self.old.progress.lines + 1 < 2 ^ 32 }
         requires hidden { is_shown self.old.marked (walk_in D.desk self.old) self.old.progress.wanted ≡ false }
         ensures left { (o : List ℕ) (line : List ℕ)
             → DrewLine D.desk self.old o line (Ok (Some command.now)) self.new o }
-        ensures steps { self.new.progress.steps ≡ self.old.progress.steps + 1 }
+        ensures lines { self.new.progress.lines ≡ self.old.progress.lines + 1 }
     {
         let sender = StepSender::new(&self.drawn, Some(command));
         change(&mut self.drawn, command);
@@ -160,10 +161,10 @@ impl<D: Drawn> Painter<D> {
 
     /// Leaves a step out, and notes what has become of the last messages at it.
     fn leave_out(&mut self, sender: StepSender)
-        requires room { self.old.progress.steps + 1 < 2 ^ 32 }
+        requires room { self.old.progress.lines + 1 < 2 ^ 32 }
         requires hidden { is_shown self.old.marked (walk_in D.desk self.old) self.old.progress.wanted ≡ false }
         ensures left { (b : Before) → IsSender sender b → LeftStep D.desk self.old b self.new }
-        ensures steps { self.new.progress.steps ≡ self.old.progress.steps + 1 }
+        ensures lines { self.new.progress.lines ≡ self.old.progress.lines + 1 }
     {
         self.begin_step(sender);
         self.drawn.recall_desk();
@@ -172,10 +173,10 @@ impl<D: Drawn> Painter<D> {
 
     /// Shows a line that is bad, where it is to be shown.
     fn refuse<P: Pen>(&mut self, line: &[u8], fault: &LineFault, pen: &mut P)
-        requires room { self.old.progress.steps + 1 < 2 ^ 32 }
+        requires room { self.old.progress.lines + 1 < 2 ^ 32 }
         ensures drew { DrewLine D.desk self.old (P.offered pen.old) line.now (Err fault.now) self.new
             (P.offered pen.new) }
-        ensures steps { self.new.progress.steps ≡ self.old.progress.steps + 1 }
+        ensures lines { self.new.progress.lines ≡ self.old.progress.lines + 1 }
     {
         self.has_bad_line = true;
         if !self.shows_next() {
@@ -200,7 +201,7 @@ impl<D: Drawn> Painter<D> {
 
     /// Notes what has become of the last messages, and writes the step.
     fn take_step<P: Pen>(&mut self, line: &[u8], deed: Deed<'_>, pen: &mut P)
-        requires room { self.old.progress.steps + 1 < 2 ^ 32 }
+        requires room { self.old.progress.lines + 1 < 2 ^ 32 }
         requires few { self.old.progress.shown < MOST_STEPS }
         requires shown { is_shown self.old.marked (walk_in D.desk self.old) self.old.progress.wanted ≡ true }
         requires wanted { deed.wanted ≡ self.old.progress.wanted }
@@ -208,26 +209,26 @@ impl<D: Drawn> Painter<D> {
             TookStep D.desk self.old (P.offered pen.old) (P.offered pen.new) line.now
             (λ s. happened_at (D.desk self.old.drawn) s deed.entry.kept.now (option_map
             (λ c. c.now) deed.entry.command) deed.entry.reply.now text) self.new }
-        ensures steps { self.new.progress.steps ≡ self.old.progress.steps + 1 }
+        ensures lines { self.new.progress.lines ≡ self.old.progress.lines + 1 }
     {
         self.begin_step(deed.kept.sender());
         self.drawn.messages(&mut self.messages);
         self.show(line, deed, pen);
     }
 
-    /// Counts one more command, and notes what has become of the last messages behind it.
+    /// Counts the line of one more command, and notes what has become of the last messages behind it.
     fn begin_step(&mut self, sender: StepSender)
-        requires { self.old.progress.steps + 1 < 2 ^ 32 }
+        requires { self.old.progress.lines + 1 < 2 ^ 32 }
         ensures next { let old = self.old.progress in
-            self.new.progress ≡ record old { steps = old.steps + 1; wanted = false } }
-        ensures few { self.new.progress.left < self.new.progress.steps }
+            self.new.progress ≡ record old { lines = old.lines + 1; wanted = false } }
+        ensures few { self.new.progress.left < self.new.progress.lines }
         ensures notes { (s : Share) (b : Before) (m : Marks) → IsSender sender b → self.new.notes.items
-            ≡ noted (self.old.progress.steps + 1) (scene_of (D.desk self.old.drawn) s b m) self.old.notes.items }
+            ≡ noted (self.old.progress.lines + 1) (scene_of (D.desk self.old.drawn) s b m) self.old.notes.items }
         ensures rest { self.new
             ≡ record self.old { progress = self.new.progress; messages = self.new.messages; notes = self.new.notes } }
     {
-        self.progress.begin_step();
-        let number = self.progress.steps();
+        self.progress.count_line(false);
+        let number = self.progress.lines();
         note_step(
             &self.drawn,
             sender,
@@ -255,7 +256,7 @@ impl<D: Drawn> Painter<D> {
             WroteStep D.desk self.old (P.offered pen.old) (P.offered pen.new) line.now deed.entry.wanted
             (λ s. happened_at (D.desk self.old.drawn) s deed.entry.kept.now (option_map
             (λ c. c.now) deed.entry.command) deed.entry.reply.now text) self.new }
-        ensures steps { self.new.progress.steps ≡ self.old.progress.steps }
+        ensures lines { self.new.progress.lines ≡ self.old.progress.lines }
     {
         self.drawn.page_list(&mut self.pages);
         self.open_step(pen);
@@ -268,7 +269,7 @@ impl<D: Drawn> Painter<D> {
             &self.pages,
         );
         let above = Above {
-            number: self.progress.steps(),
+            number: self.progress.lines(),
             line,
             front: self.front.as_slice(),
             count: deed.count,
@@ -314,7 +315,7 @@ impl<D: Drawn> LineTaker for Painter<D> {
 
     ghost took_rest = { TookPaintedRest D.desk };
 
-    ghost room = { λ m. 2 ^ 32 - 1 - m.progress.steps };
+    ghost room = { λ m. 2 ^ 32 - 1 - m.progress.lines };
 
     fn take_line<P: Pen>(&mut self, line: &[u8], pen: &mut P) {
         let mut command = Command::Ask(Question::Areas);

@@ -8,12 +8,12 @@ use crate::deeds::and_not;
 use rh_sheet::sizes::MOST_STEPS;
 use std::marker::Model;
 
-/// How far a sheet has come: how many commands are behind it and whether a mark was seen since the last; how many of
-/// them are shown, which of those has the last figure, 0 for none, and how many are left out; and whether a remark has
-/// begun the next step.
+/// How far a sheet has come: how many lines are behind it, and whether a mark was seen since the last command; how many
+/// commands are shown, which of those has the last figure, 0 for none, and how many are left out; and whether a remark
+/// has begun the next step.
 #[derive(Drop)]
 pub struct Progress {
-    steps: u32,
+    lines: u32,
     wanted: bool,
     shown: u32,
     last: u32,
@@ -29,7 +29,7 @@ impl Model for Progress {
     ghost Value = { PaintStand };
 
     ghost view = { λ s. record {
-      steps = s.steps;
+      lines = s.lines;
       wanted = s.wanted;
       shown = s.shown;
       last = s.last;
@@ -37,7 +37,7 @@ impl Model for Progress {
       opened = s.opened;
     } };
 
-    ghost invariant = { λ s. ((if s.opened then s.shown + 1 else s.shown) ≤ MOST_STEPS) × (s.left ≤ s.steps) };
+    ghost invariant = { λ s. ((if s.opened then s.shown + 1 else s.shown) ≤ MOST_STEPS) × (s.left ≤ s.lines) };
 }
 
 impl Progress {
@@ -48,7 +48,7 @@ impl Progress {
         ensures { result ≡ stand_first }
     {
         Progress {
-            steps: 0,
+            lines: 0,
             wanted: false,
             shown: 0,
             last: 0,
@@ -57,14 +57,14 @@ impl Progress {
         }
     }
 
-    /// How many commands are behind it.
-    pub fn steps(&self) -> u32
-        ensures { result ≡ self.now.steps }
+    /// How many lines are behind it.
+    pub fn lines(&self) -> u32
+        ensures { result ≡ self.now.lines }
     {
-        self.steps
+        self.lines
     }
 
-    /// Whether a mark was seen since the last one.
+    /// Whether a mark was seen since the last command.
     pub fn wanted(&self) -> bool
         ensures { result ≡ self.now.wanted }
     {
@@ -120,26 +120,19 @@ impl Progress {
         (self.shown as usize) < MOST_STEPS && !and_not(marked, wanted)
     }
 
-    /// A line that asks for nothing is behind it: the next command is wanted or not.
-    pub fn want(&mut self, wanted: bool)
-        ensures { self.new ≡ record self.old { wanted = wanted } }
+    /// Counts one more line: a mark was seen since the last command, or not.
+    pub fn count_line(&mut self, wanted: bool)
+        requires { self.old.lines + 1 < 2 ^ 32 }
+        ensures next { self.new ≡ record self.old { lines = self.old.lines + 1; wanted = wanted } }
+        ensures few { self.new.left < self.new.lines }
     {
+        self.lines += 1;
         self.wanted = wanted;
-    }
-
-    /// Counts one more command. No mark was seen since.
-    pub fn begin_step(&mut self)
-        requires { self.old.steps + 1 < 2 ^ 32 }
-        ensures next { self.new ≡ record self.old { steps = self.old.steps + 1; wanted = false } }
-        ensures few { self.new.left < self.new.steps }
-    {
-        self.steps += 1;
-        self.wanted = false;
     }
 
     /// Counts a command that is left out.
     pub fn leave_out(&mut self)
-        requires { self.old.left < self.old.steps }
+        requires { self.old.left < self.old.lines }
         ensures { self.new ≡ record self.old { left = self.old.left + 1 } }
     {
         self.left += 1;

@@ -6,9 +6,9 @@ use Rattle.rh_pictures.proofs.map.mapper.Mapper.carry_out.Goals as goal
 pub returns-then-and_not-clause-told : goal.returns-then-and_not-clause-told
 returns-then-and_not-clause-told g c =
     let desk = g.D.Sight.desk in
-    let b = c.begin_step-wanted.new.self in
-    hidden-command desk c.args.self.now b c.args.line.now (g.P.Pen.offered c.args.pen.now) c.begin_step-wanted.result c.begin_step-wanted.ensures.wanted
-    c.begin_step-wanted.ensures.next
+    let b = c.count_line-wanted.new.self in
+    hidden-command desk c.args.self.now b c.args.line.now (g.P.Pen.offered c.args.pen.now) c.count_line-wanted.result c.count_line-wanted.ensures.wanted
+    c.count_line-wanted.ensures.next
     c.args.command.now _ _ (sym c.and_not.ensures ∙ c.if-and_not.true) c.change.ensures
     (rest-as {b = b} (record b { drawn = c.change.new.drawn }) refl) (is_shared (desk c.change.new.drawn) c.recall_desk.ensures)
 
@@ -16,12 +16,12 @@ pub returns : goal.returns
 returns g c =
     let desk = g.D.Sight.desk in
     let m = c.args.self.now in
-    let b = c.begin_step-wanted.new.self in
+    let b = c.count_line-wanted.new.self in
     let a = record b { drawn = c.answer-reply.new.drawn; messages = c.messages.new.list; front = c.answer-reply.new.front } in
     let o = g.P.Pen.offered c.args.pen.now in
-    let w = c.begin_step-wanted.result in
-    let was = c.begin_step-wanted.ensures.wanted in
-    let next = c.begin_step-wanted.ensures.next in
+    let w = c.count_line-wanted.result in
+    let was = c.count_line-wanted.ensures.wanted in
+    let next = c.count_line-wanted.ensures.next in
     let s = share_in c.show.new.self.pages.items (desk a.drawn) in
     let test = sym c.and_not.ensures ∙ c.if-and_not.false in
     let text = command-text desk m b c.args.line.now o w was next c.args.command.now s a _ _ test c.answer-reply.ensures.desk c.answer-reply.ensures.reply
@@ -31,5 +31,5 @@ returns g c =
           c.answer-reply.ensures.desk
           (rest-as {b = b} a refl)
           (offered_as o (ap shown_lines text) (c.show.ensures.text (reply_to (desk b.drawn) c.args.command.now) c.answer-reply.ensures.excerpt));
-      steps = c.show.ensures.same.steps ∙ ap (λ (z : Mapper g.row.D.Denot). z.steps) next;
+      lines = c.show.ensures.same.lines ∙ ap (λ (z : Mapper g.row.D.Denot). z.lines) next;
     }

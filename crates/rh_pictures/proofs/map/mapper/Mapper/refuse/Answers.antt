@@ -7,21 +7,21 @@ pub returns-then-and_not-clause-told : goal.returns-then-and_not-clause-told
 returns-then-and_not-clause-told g c =
     let desk = g.D.Sight.desk in
     let m = record c.args.self.now { has_bad_line = true } in
-    let b = c.begin_step-wanted.new.self in
-    fault-from (hidden-fault desk m b c.args.line.now (g.P.Pen.offered c.args.pen.now) c.begin_step-wanted.result c.begin_step-wanted.ensures.wanted
-    c.begin_step-wanted.ensures.next
+    let b = c.count_line-wanted.new.self in
+    fault-from (hidden-fault desk m b c.args.line.now (g.P.Pen.offered c.args.pen.now) c.count_line-wanted.result c.count_line-wanted.ensures.wanted
+    c.count_line-wanted.ensures.next
     c.args.fault.now _ _ (sym c.and_not.ensures ∙ c.if-and_not.true) refl refl refl refl
-    (ap (λ (z : Mapper g.row.D.Denot). z.has_bad_line) c.begin_step-wanted.ensures.next) (is_shared (desk b.drawn) c.recall_desk.ensures))
+    (ap (λ (z : Mapper g.row.D.Denot). z.has_bad_line) c.count_line-wanted.ensures.next) (is_shared (desk b.drawn) c.recall_desk.ensures))
 
 pub returns : goal.returns
 returns g c =
     let desk = g.D.Sight.desk in
     let m = record c.args.self.now { has_bad_line = true } in
-    let b = c.begin_step-wanted.new.self in
+    let b = c.count_line-wanted.new.self in
     let o = g.P.Pen.offered c.args.pen.now in
-    let w = c.begin_step-wanted.result in
-    let was = c.begin_step-wanted.ensures.wanted in
-    let next = c.begin_step-wanted.ensures.next in
+    let w = c.count_line-wanted.result in
+    let was = c.count_line-wanted.ensures.wanted in
+    let next = c.count_line-wanted.ensures.next in
     let s = share_in c.show.new.self.pages.items (desk b.drawn) in
     let test = sym c.and_not.ensures ∙ c.if-and_not.false in
     let text = fault-text desk m b c.args.line.now o w was next c.args.fault.now s b c.new-kept.result test refl c.new-kept.ensures refl in
@@ -29,5 +29,5 @@ returns g c =
       told = fault-from (told-fault desk m b c.args.line.now o w was next _ _ _ s c.show.ensures.same c.show.ensures.shared c.args.fault.now refl refl refl refl
           (ap (λ (z : Mapper g.row.D.Denot). z.has_bad_line) next)
           (offered_as o (ap shown_lines text) (c.show.ensures.text (fault_text c.args.fault.now) c.excerpt_fault-count.ensures)));
-      steps = c.show.ensures.same.steps ∙ ap (λ (z : Mapper g.row.D.Denot). z.steps) next;
+      lines = c.show.ensures.same.lines ∙ ap (λ (z : Mapper g.row.D.Denot). z.lines) next;
     }

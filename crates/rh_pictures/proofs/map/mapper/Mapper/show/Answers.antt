@@ -13,6 +13,6 @@ returns-clause-text g c = λ text excerpt.
     let P : List ℕ → Type 0 = λ z. Excerpts z deed.count text in
     let scene = ap₂ (λ pages kept. scene_of d (share_in pages d) kept (marks_seen step.marks)) is.pages is.kept
     ∙ ap (scene_of d (share_in c.page_list.new.list.items d) deed.kept.now) is.marks in
-    offered_as _ (ap₂ (λ still x. shown_lines (step_lines still m.steps c.args.line.now text x))
+    offered_as _ (ap₂ (λ still x. shown_lines (step_lines still m.lines c.args.line.now text x))
     (c.and_not.ensures ∙ ap (λ z. z && not deed.wanted) c.is_still.ensures) scene)
     (c.print_step.ensures text (subst P (sym c.as_slice.ensures) excerpt))

@@ -4,5 +4,5 @@ use Rattle.rh_pictures.proofs.sheet.painter.Painter.begin_step.Goals as goal
 pub returns-clause-notes : goal.returns-clause-notes
 returns-clause-notes g c = λ s b marks is.
     let m = c.args.self.now in
-    let number = c.steps-number.ensures ∙ ap (λ (p : PaintStand). p.steps) c.begin_step.ensures.next in
+    let number = c.lines-number.ensures ∙ ap (λ (p : PaintStand). p.lines) c.count_line.ensures.next in
     c.note_step.ensures s b marks is ∙ ap (λ k. noted k (scene_of (g.D.Sight.desk m.drawn) s b marks) m.notes.items) number

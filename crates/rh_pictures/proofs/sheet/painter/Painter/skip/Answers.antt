@@ -13,12 +13,12 @@ use Rattle.rh_pictures.proofs.sheet.painter.Painter.skip.Goals as goal
 pub returns-then-not-shows-clause-drew : goal.returns-then-not-shows-clause-drew
 returns-then-not-shows-clause-drew g c =
     let m = c.args.self.now in
-    let n = record m { progress = c.want.new.self } in
+    let n = record m { progress = c.count_line.new.self } in
     let line = c.args.line.now in
     let desk = g.D.Sight.desk in
     let w-is : c.is_wanted-wanted.result ≡ (m.progress.wanted || is_mark line) = c.is_wanted-wanted.ensures ∙ ap (λ b. b || is_mark line) c.wanted.ensures in
-    let progress : c.want.new.self ≡ record m.progress { wanted = m.progress.wanted || is_mark line } = c.want.ensures
-    ∙ ap (λ w. record m.progress { wanted = w }) w-is in
+    let progress : c.count_line.new.self ≡ record m.progress { lines = m.progress.lines + 1; wanted = m.progress.wanted || is_mark line } =
+    c.count_line.ensures.next ∙ ap (λ w. record m.progress { lines = m.progress.lines + 1; wanted = w }) w-is in
     let test : is_shown_remark m.marked (walk_in desk m) line ≡ false =
     sym (c.shows.ensures.value ∙ ap₂ (λ (p : PaintStand) w. not (length (words_of line) == 0) &&
     (nat_lt p.shown MOST_STEPS && (not m.marked || w))) progress w-is)
@@ -32,8 +32,8 @@ returns-clause-drew g c =
     let line = c.args.line.now in
     let desk = g.D.Sight.desk in
     let w-is : c.is_wanted-wanted.result ≡ (m.progress.wanted || is_mark line) = c.is_wanted-wanted.ensures ∙ ap (λ b. b || is_mark line) c.wanted.ensures in
-    let progress : c.want.new.self ≡ record m.progress { wanted = m.progress.wanted || is_mark line } = c.want.ensures
-    ∙ ap (λ w. record m.progress { wanted = w }) w-is in
+    let progress : c.count_line.new.self ≡ record m.progress { lines = m.progress.lines + 1; wanted = m.progress.wanted || is_mark line } =
+    c.count_line.ensures.next ∙ ap (λ w. record m.progress { lines = m.progress.lines + 1; wanted = w }) w-is in
     let test : is_shown_remark m.marked (walk_in desk m) line ≡ true =
     sym (c.shows.ensures.value ∙ ap₂ (λ (p : PaintStand) w. not (length (words_of line) == 0) &&
     (nat_lt p.shown MOST_STEPS && (not m.marked || w))) progress w-is)
