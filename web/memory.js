@@ -63,6 +63,11 @@ export class Memory {
     this.#chart = new Picture(parts.chart, addedStyle);
     parts.views.hidden = !(session.has("vf_draw") && session.has("vf_map"));
     for (const radio of this.#radios()) radio.addEventListener("change", () => this.show());
+    // A click on the number of a line in the chart goes to that line.
+    parts.chart.addEventListener("click", (event) => {
+      const [target] = event.composedPath();
+      if (target.matches?.(".beat")) session.moveTo(Number(target.textContent));
+    });
   }
 
   #radios() {
@@ -106,11 +111,15 @@ export class Memory {
 
   #drawView(view) {
     if (view === undefined) return NO_DRAWING;
+    const { added } = this.#session;
+    const line = this.#session.command + 1;
     if (view === "map") {
-      this.#parts.map.textContent = shownText(this.#session.drawn("vf_map", false));
+      const map = shownText(this.#session.drawn("vf_map", false));
+      this.#parts.map.textContent = added ? map.replace(new RegExp(`^${line + added}  `, "m"), `${line}  `) : map;
       return "";
     }
-    const { style, memory, messages, legend, changes } = lastStepOf(this.#session.drawn("vf_draw", false));
+    const { style, memory, messages, legend, changes } =
+      lastStepOf(this.#session.drawn("vf_draw", false), line, added);
     this.#picture.show(style, memory, legend, this.#isBesidePictured());
     const { command, state: { lines, pages } } = this.#session;
     this.#pictured = { command, lines, pages };

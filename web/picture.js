@@ -7,14 +7,27 @@ import { element } from "./prose.js";
 // The style of a sheet; a browser would refuse one that it finds in a page.
 const STYLE = /<style>([^]*?)<\/style>/;
 
-// The last step of a sheet: the sheet's style, what the command has changed in words, the figures of memory and of the
-// messages, and how figures are read.
-export function lastStepOf(sheet) {
+// Gives the messages at a step the number of its line in the script, where a sheet was made of lines of which so many
+// were put in before it.
+function renumber(aside, line, added) {
+  if (!aside || !added) return;
+  const drawn = String(line + added);
+  const inWords = new RegExp(`\\bline ${drawn}\\b`, "g");
+  for (const beat of aside.querySelectorAll(".beat")) if (beat.textContent === drawn) beat.textContent = line;
+  for (const said of aside.querySelectorAll("desc")) {
+    said.textContent = said.textContent.replace(inWords, `line ${line}`);
+  }
+}
+
+// The last step of a sheet, by the number of its line: the sheet's style, what the command has changed in words, the
+// figures of memory and of the messages, and how figures are read.
+export function lastStepOf(sheet, line, added) {
   const text = shownText(sheet);
   const page = new DOMParser().parseFromString(text.replace(STYLE, ""), "text/html");
   const step = [...page.querySelectorAll("main section")].at(-1);
   const defs = page.querySelector(".defs");
   const aside = step?.querySelector(":scope > aside");
+  renumber(aside, line, added);
   return {
     style: STYLE.exec(text)?.[1] ?? "",
     changes: [...step?.querySelectorAll(".change") ?? []].map((change) => change.textContent),

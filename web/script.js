@@ -86,12 +86,24 @@ export function positionBeforeStep(replies, position) {
   return commandBefore(replies, commandBefore(replies, position)) + 1;
 }
 
-// The text of a script's front up to a command, of which the command alone is marked for a picture.
+// Whether a line that is skipped stands just before a command, and whether one of such lines there is a mark.
+function standsBefore(lines, command) {
+  const last = lines.findLastIndex((line, index) => index < command && hasReply(line));
+  return { isSkipped: last < command - 1, isMarked: lines.slice(last + 1, command).some((line) => MARK.test(line)) };
+}
+
+// How many lines the text has in which a command alone is marked that its script doesn't have.
+export function addedByMark({ lines }, command) {
+  return standsBefore(lines, command).isSkipped ? 0 : 1;
+}
+
+// The text of a script's front up to a command, of which the command alone is marked for a picture: other marks become
+// empty remarks. The line before a command that has no mark becomes one, if it is skipped; else a line is put in.
 export function markedText({ lines, isCut }, command) {
-  const before = lines.slice(0, command);
-  const last = before.findLastIndex((line) => hasReply(line));
-  const keeps = (line, index) => index > last || hasReply(line) || !MARK.test(line);
-  const kept = before.filter(keeps);
-  if (!before.slice(last + 1).some((line) => MARK.test(line))) kept.push("#picture");
+  const { isSkipped, isMarked } = standsBefore(lines, command);
+  const last = isMarked ? lines.findLastIndex((line, index) => index < command && hasReply(line)) : command;
+  const kept = lines.slice(0, command)
+    .map((line, index) => index < last && MARK.test(line) && !hasReply(line) ? "#" : line);
+  if (!isMarked) kept.splice(isSkipped ? command - 1 : command, 1, "#picture");
   return textOfLines([...kept, lines[command]], isCut && command === lines.length - 1);
 }

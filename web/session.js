@@ -3,7 +3,8 @@
 import { bytesOf, textOf } from "./bytes.js";
 import { KINDS, Refusal, packedFiles } from "./desk.js";
 import {
-  commandBefore, lastReplyOf, linesOf, markedText, positionAfterStep, positionBeforeStep, repliesByLine, textOfLines,
+  addedByMark, commandBefore, lastReplyOf, linesOf, markedText, positionAfterStep, positionBeforeStep, repliesByLine,
+  textOfLines,
 } from "./script.js";
 
 export const LEAST_PAGES = 8;
@@ -192,6 +193,11 @@ export class Session {
   drawn(call, isWhole) {
     const text = isWhole ? this.text : markedText(this.state, this.command);
     return this.#desk.text(call, this.#job(text, isWhole ? 0 : 1));
+  }
+
+  // How many lines the text of the last step has before its command that the script doesn't have.
+  get added() {
+    return addedByMark(this.state, this.command);
   }
 
   // What the module replies to a question behind the lines that have run.

@@ -238,6 +238,22 @@ def check_explained(bench):
         same(page.saved("cut.desk"), b"areas\n", "the script whose last line was ended")
 
 
+def check_numbers_of_chart(bench):
+    """The chart names steps by their lines in the script; a click on such a number goes to the line."""
+    chart = "document.querySelector('#chart').shadowRoot"
+    with bench.kept_page() as page:
+        page.load("not-delivered")
+        page.value("document.querySelectorAll('#lines .number')[10].click()")
+        same(page.value(f"[...{chart}.querySelectorAll('.beat')].map((it) => it.textContent)"), ["6", "7", "8", "11"],
+             "the lines of the chart")
+        said = page.value(f"{chart}.querySelector('desc').textContent")
+        holds("3 RAMTransmit from a to task 2, sent at line 8, vanished at line 11: " in said, f"it reads out {said}")
+        click = "new Event('click', {bubbles: true, composed: true})"
+        page.value(f"{chart}.querySelector('.beat').dispatchEvent({click})")
+        same([page.text("progress"), page.text("shown")], ["6 of 18 lines have run", "6save a 0 b hello → ok 1"],
+             "the line of a number that is clicked on")
+
+
 def check_stillness(bench):
     """Of a question, and of a command that is refused or bad, it is told that memory stays; of no other one."""
     script = (b"task a 9\nareas\nclaim a 20\nheap a\nblocks a\nstatus a\nalloc a 0 5\nshow a 0\npoll a\nrelease a &9\n"

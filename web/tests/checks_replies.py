@@ -122,10 +122,12 @@ def check_pictures(bench):
 
 
 def check_map(bench):
-    """The map is the native program's map of the last step alone."""
+    """The map is the native program's map of the last step alone, with the number that its line has in the script."""
     example = make.examples_by_name()["transfer"]["text"].splitlines()
     marked = "\n".join([*example[:8], "#picture", example[8]]) + "\n"
-    wanted = native.done("map", native.Job(marked.encode(), is_marked=True))[1].decode()
+    drawn = native.done("map", native.Job(marked.encode(), is_marked=True))[1].decode()
+    wanted = drawn.replace("\n10  poll b\n", "\n9  poll b\n")
+    holds(drawn != wanted, "a mark that is put in before line 9 doesn't move it")
     with bench.kept_page() as page:
         page.load("transfer")
         page.value("document.querySelector('[value=map]').click()")
@@ -151,7 +153,8 @@ def check_drawn_files(bench):
         sheet = STYLE.sub("", native.done("draw", last)[1].decode())
         same(page.value(FIGURE_SHOWN), page.value(FIGURES_OF_SHEET % json.dumps(sheet))[-1], "the picture")
         page.value("document.querySelector('[value=map]').click()")
-        same(page.value("document.querySelector('#map').textContent"), native.done("map", last)[1].decode(), "the map")
+        wanted = native.done("map", last)[1].decode().replace("\n4  load", "\n3  load")
+        same(page.value("document.querySelector('#map').textContent"), wanted, "the map")
         page.click("save-sheet")
         same(page.tab.downloaded("files.html"), native.done("draw", job)[1], "the saved pictures")
 

@@ -7,7 +7,8 @@ import { hashOf, readHash } from "./link.js";
 import { Picture, lastStepOf } from "./picture.js";
 import { formsFor } from "./complete.js";
 import {
-  hasReply, linesOf, markedText, outcomeOf, positionAfterStep, positionBeforeStep, repliesByLine, textOfLines,
+  addedByMark, hasReply, linesOf, markedText, outcomeOf, positionAfterStep, positionBeforeStep, repliesByLine,
+  textOfLines,
 } from "./script.js";
 
 // Tells where two values aren't written alike.
@@ -118,10 +119,12 @@ const TESTS = {
     same([0, 1].map((at) => positionAfterStep(["ok", "ok", "ok"], at)), [1, 2]);
   },
   "only the last command is marked"() {
-    same(markedText(lines("#picture A", "task a 9", "# b", "areas", "x"), 3), "task a 9\n# b\n#picture\nareas\n");
+    same(markedText(lines("#picture A", "task a 9", "# b", "areas", "x"), 3), "#\ntask a 9\n#picture\nareas\n");
     same(markedText(lines("a", "# b", " #picture C", "x"), 3), "a\n# b\n #picture C\nx\n");
     same(markedText(lines("a", "#picture C", "# b", "", "x"), 4), "a\n#picture C\n# b\n\nx\n");
-    same(markedText(lines("a", "#pictures of a", "x"), 2), "a\n#pictures of a\n#picture\nx\n");
+    same(markedText(lines("a", "#pictures of a", "x"), 2), "a\n#picture\nx\n");
+    same(markedText(lines("#picture", "#picture A", "a", "x"), 3), "#\n#\na\n#picture\nx\n");
+    same([0, 2, 3].map((at) => addedByMark(lines("a", "# b", "x", "y"), at)), [1, 0, 1]);
     same(markedText({ lines: ["a", "# cut"], isCut: true }, 1), "a\n#picture\n# cut");
     same(markedText({ lines: ["a", "# cut"], isCut: true }, 0), "#picture\na\n");
   },
@@ -219,6 +222,17 @@ const TESTS = {
     const none = lastStepOf(bytesOf("<p>none</p>"));
     new Picture(document.createElement("div"), "").show(none.style, none.memory, none.legend);
     same([none.messages, none.changes], [[], []]);
+  },
+  "a step has the number of its line where a mark was put in before it"() {
+    const beats = [3, 12, 13].map((it) => `<text class="beat">${it}</text>`).join("");
+    const said = "12 RAMFetch from a to b, sent at line 13, waits. 3 DataSave, sent at line 3, taken at line 13. ";
+    const sheet = `<main><section><aside><svg><desc>${said}</desc>${beats}</svg></aside></section></main>`;
+    const numbers = (added) => {
+      const [, aside] = lastStepOf(bytesOf(sheet), 12, added).messages;
+      return [...aside.querySelectorAll("desc, .beat")].map((it) => it.textContent);
+    };
+    same(numbers(0), [said, "3", "12", "13"]);
+    same(numbers(1), [said.replaceAll("line 13", "line 12"), "3", "12", "12"]);
   },
   "a module begins anew after it has stopped, and gets more room where its text needs it"() {
     const made = [];
