@@ -2,7 +2,8 @@
 
 ghost use Rattle.std.specs.Prelude.{◌≡◌, ◌≤◌, ◌<◌, ◌^◌};
 ghost use Rattle.rh_figure.specs.declared.limits.TheConstants.{MOST_ROWS};
-ghost use Rattle.rh_sheet.specs.Frames.{band_height as band_height_of, frame_height as height_of};
+ghost use Rattle.rh_sheet.specs.Frames.{band_height as band_height_of, first_beside as first_page_beside};
+ghost use Rattle.rh_sheet.specs.Frames.{frame_height as height_of};
 ghost use Rattle.rh_sheet.specs.Frames.{page_in as page_in_row, frame_row as row_of_page, row_y as row_y_of};
 ghost use Rattle.rh_sheet.specs.Frames.{rows_foot as foot_of, rows_top as top_of, shown_rows as shown_rows_of};
 
@@ -29,6 +30,17 @@ pub fn page_in(n: usize, i: usize) -> Option<usize>
         None
     } else {
         Some(n - (MOST_ROWS - i))
+    }
+}
+
+/// The lowest page of those whose rows stand together with row i from below of n pages.
+pub fn first_beside(n: usize, i: usize) -> usize
+    ensures { result ≡ first_page_beside n i }
+{
+    if n <= MOST_ROWS || i < EDGE_ROWS {
+        0
+    } else {
+        n - EDGE_ROWS
     }
 }
 

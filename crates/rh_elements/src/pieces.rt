@@ -1,6 +1,6 @@
 //! The pieces of an area in the rows of its pages.
 
-ghost use Rattle.std.specs.Prelude.{◌≡◌, ◌≤◌, ◌<◌, ◌+◌, ◌*◌, ◌^◌, ◌==◌, ◌&&◌, [], ◌∷◌, ◌++◌, length, codes};
+ghost use Rattle.std.specs.Prelude.{◌≡◌, ◌≤◌, ◌<◌, ◌+◌, ◌*◌, ◌^◌, ◌==◌, ◌&&◌, not, [], ◌∷◌, ◌++◌, length, codes};
 ghost use Rattle.std.specs.Fmt.{decimal};
 ghost use Rattle.std.specs.List.{concat};
 ghost use Rattle.rh_defs.specs.Text.{address as address_of};
@@ -11,7 +11,8 @@ ghost use Rattle.rh_lines.specs.declared.row.TheConstants.{ROW};
 ghost use Rattle.rh_figure.specs.Phrases.{where_so};
 ghost use Rattle.rh_sheet.specs.declared.sizes.TheConstants.{ROW_WIDTH, SHORT_EDGE, UNIT_BYTES};
 ghost use Rattle.rh_sheet.specs.Markup.{box_text};
-ghost use Rattle.rh_sheet.specs.SheetPieces.{fitting as fitting_label, has_room as has_room_for};
+ghost use Rattle.rh_sheet.specs.SheetPieces.{first_page as first_page_of, fitting as fitting_label};
+ghost use Rattle.rh_sheet.specs.SheetPieces.{has_room as has_room_for, is_labelled_below as is_labelled_below_of};
 ghost use Rattle.rh_sheet.specs.SheetPieces.{high_in as high_byte_in, is_tinted as is_tinted_kind};
 ghost use Rattle.rh_sheet.specs.SheetPieces.{kind_class as class_of_kind, label_of, low_in as low_byte_in, piece_box};
 ghost use Rattle.rh_sheet.specs.SheetPieces.{piece_classes, piece_label, piece_text, piece_width as width_of_piece};
@@ -286,60 +287,125 @@ fn print_piece_box<P: Pen>(start: u32, tint: Tint, y: u32, k: usize, piece: &Pie
     print_box(class.as_slice(), at, tip.as_slice(), pen);
 }
 
-/// Writes the label that the part of a piece in the row of page k has room for.
-fn print_label<P: Pen>(y: u32, k: usize, piece: &Piece, pen: &mut P)
+/// The lowest page from page low on in which a piece has bytes.
+fn first_page(low: usize, piece: &Piece) -> usize
+    ensures { result ≡ first_page_of low piece.now }
+{
+    low.max(piece.at / PAGE)
+}
+
+/// Whether the whole label of a piece has room in its part in the row of page k.
+fn has_label(k: usize, piece: &Piece) -> bool
+    requires page { k < 2 ^ 20 }
+    requires piece { IsDrawable piece.now }
+    ensures { result ≡ has_room_for LABEL_EDGE (label_of piece.now.kind piece.now.size) (width_of_piece k piece.now) }
+{
+    let mut label = Row::new();
+    add_label(&mut label, piece.kind, piece.size as u32);
+    has_room(LABEL_EDGE, &label, piece_width(k, piece))
+}
+
+/// Whether a row below that of page k, among those from page low on, has the label of a piece.
+fn is_labelled_below(low: usize, k: usize, piece: &Piece) -> bool
+    requires page { k < 2 ^ 20 }
+    requires piece { IsDrawable piece.now }
+    ensures { result ≡ is_labelled_below_of low k piece.now }
+{
+    let first = first_page(low, piece);
+    first < k && (first + 1 < k || has_label(first, piece))
+}
+
+/// The label of a piece in the row of page k, where no row below has it.
+fn label_in(low: usize, k: usize, piece: &Piece) -> Row
+    requires page { k < 2 ^ 20 }
+    requires piece { IsDrawable piece.now }
+    ensures value { result ≡ where_so (not (is_labelled_below_of low k piece.now))
+        (fitting_label piece.now.kind piece.now.size (width_of_piece k piece.now)) }
+    ensures few { length result ≤ 20 }
+{
+    if is_labelled_below(low, k, piece) {
+        return Row::new();
+    }
+    fitting(piece.kind, piece.size as u32, piece_width(k, piece))
+}
+
+/// Writes the label that the part of a piece in the row of page k has room for, where no row below has it.
+fn print_label<P: Pen>(y: u32, low: usize, k: usize, piece: &Piece, pen: &mut P)
     requires height { y ≤ 800 }
     requires page { k < 2 ^ 20 }
     requires piece { IsDrawable piece.now }
     requires there { low_byte_in k piece.now < high_byte_in k piece.now }
-    ensures { P.offered pen.new ≡ P.offered pen.old ++ piece_label y k piece.now }
+    ensures { P.offered pen.new ≡ P.offered pen.old ++ piece_label y low k piece.now }
 {
     let mut class = Row::new();
     class.text(b"lab ");
     class.text(kind_class(piece.kind));
-    let width = piece_width(k, piece);
-    let label = fitting(piece.kind, piece.size as u32, width);
-    let x = LEFT + piece_x(k, piece) + width / 2;
+    let label = label_in(low, k, piece);
+    let x = LEFT + piece_x(k, piece) + piece_width(k, piece) / 2;
     print_words(class.as_slice(), x, y + BASELINE, label.as_slice(), pen);
 }
 
 /// Writes the part of a piece in the row of page k.
-fn print_part<P: Pen>(start: u32, tint: Tint, y: u32, k: usize, piece: &Piece, pen: &mut P)
+fn print_part<P: Pen>(
+    start: u32,
+    tint: Tint,
+    y: u32,
+    low: usize,
+    k: usize,
+    piece: &Piece,
+    pen: &mut P,
+)
     requires start { start < 2 ^ 30 }
     requires height { y ≤ 800 }
     requires page { k < 2 ^ 20 }
     requires piece { IsDrawable piece.now }
     requires there { low_byte_in k piece.now < high_byte_in k piece.now }
     ensures { P.offered pen.new ≡ P.offered pen.old
-        ++ (box_text (piece_box start (tint_class tint) y k piece.now) ++ piece_label y k piece.now) }
+        ++ (box_text (piece_box start (tint_class tint) y k piece.now) ++ piece_label y low k piece.now) }
 {
     print_piece_box(start, tint, y, k, piece, pen);
-    print_label(y, k, piece, pen);
+    print_label(y, low, k, piece, pen);
 }
 
-/// Writes a piece in the row of page k of an area that begins at an address, at a height of the figure, if it has bytes
-/// there.
-pub fn print_piece<P: Pen>(start: u32, tint: Tint, y: u32, k: usize, piece: &Piece, pen: &mut P)
+/// Writes a piece in the row of page k, which stands together with those from page low on, of an area that begins at an
+/// address, at a height of the figure, if it has bytes there.
+pub fn print_piece<P: Pen>(
+    start: u32,
+    tint: Tint,
+    y: u32,
+    low: usize,
+    k: usize,
+    piece: &Piece,
+    pen: &mut P,
+)
     requires start { start < 2 ^ 30 }
     requires height { y ≤ 800 }
     requires page { k < 2 ^ 17 }
     requires piece { IsDrawable piece.now }
-    ensures { P.offered pen.new ≡ P.offered pen.old ++ piece_text start (tint_class tint) y k piece.now }
+    ensures { P.offered pen.new ≡ P.offered pen.old ++ piece_text start (tint_class tint) y low k piece.now }
 {
     if low_in(k, piece) < high_in(k, piece) {
-        print_part(start, tint, y, k, piece, pen);
+        print_part(start, tint, y, low, k, piece, pen);
     }
 }
 
-/// Writes all pieces that have bytes in page k.
-pub fn print_pieces<P: Pen>(start: u32, tint: Tint, y: u32, k: usize, pieces: &[Piece], pen: &mut P)
+/// Writes all pieces that have bytes in page k, whose row stands together with those from page low on.
+pub fn print_pieces<P: Pen>(
+    start: u32,
+    tint: Tint,
+    y: u32,
+    low: usize,
+    k: usize,
+    pieces: &[Piece],
+    pen: &mut P,
+)
     requires start { start < 2 ^ 30 }
     requires height { y ≤ 800 }
     requires page { k < 2 ^ 17 }
     requires pieces { AreDrawable pieces.now }
-    ensures { P.offered pen.new ≡ P.offered pen.old ++ pieces_text start (tint_class tint) y k pieces.now }
+    ensures { P.offered pen.new ≡ P.offered pen.old ++ pieces_text start (tint_class tint) y low k pieces.now }
 {
     for piece in pieces {
-        print_piece(start, tint, y, k, piece, pen);
+        print_piece(start, tint, y, low, k, piece, pen);
     }
 }

@@ -1,15 +1,16 @@
 //! The pool of pages: squares with numbers, tints and tags.
 
-ghost use Rattle.std.specs.Prelude.{◌≡◌, ◌≤◌, ◌<◌, ◌+◌, ◌^◌, ◌++◌, codes, length};
+ghost use Rattle.std.specs.Prelude.{◌≡◌, ◌≤◌, ◌<◌, ◌+◌, ◌*◌, ◌^◌, ◌++◌, codes, length};
 ghost use Rattle.std.specs.List.{flat_map, range_with_len};
 ghost use Rattle.rh_defs.specs.declared.sizes.TheConstants.{MAX_PAGES};
 ghost use Rattle.rh_elements.specs.declared.boxes.TheConstants.{LONGEST_CLASS};
 ghost use Rattle.rh_lines.specs.declared.row.TheConstants.{ROW};
 ghost use Rattle.rh_sheet.specs.Markup.{box_text, words_text};
 ghost use Rattle.rh_sheet.specs.Pool.{cell_x as x_of_cell, cell_y as y_of_cell, free_text, grid_box, grid_text};
-ghost use Rattle.rh_sheet.specs.Pool.{number_text, pool_side, rest_row_text, some_squares, square_way, squares_begin};
+ghost use Rattle.rh_sheet.specs.Pool.{number_text, numbered as numbered_of, numbered_text, pool_side, rest_row_text};
+ghost use Rattle.rh_sheet.specs.Pool.{some_squares, square_way, squares_begin};
 ghost use Rattle.rh_sheet.specs.Pool.{squares_text, tag_text, whole_rows_text};
-ghost use Rattle.rh_sheet.specs.declared.sizes.TheConstants.{POOL_NOTE_Y};
+ghost use Rattle.rh_sheet.specs.declared.sizes.TheConstants.{NUMBERED, POOL_NOTE_Y};
 
 use crate::attributes::add_text_attribute;
 use crate::boxes::{Extent, print_box, print_words};
@@ -17,8 +18,8 @@ use crate::escape::put_between;
 use crate::markup::add_point;
 use rh_lines::{Pen, Row};
 use rh_sheet::sizes::{
-    CELL, LEFT, NUMBER_BASELINE, NUMBER_INDENT, POOL_COLUMNS, POOL_NAME_Y, POOL_NOTE_Y, ROW_WIDTH,
-    TAG_BASELINE,
+    CELL, LEFT, NUMBER_BASELINE, NUMBER_INDENT, NUMBERED, POOL_COLUMNS, POOL_NAME_Y, POOL_NOTE_Y,
+    ROW_WIDTH, TAG_BASELINE,
 };
 
 // ---- squares
@@ -160,7 +161,7 @@ fn print_number<P: Pen>(k: u32, pen: &mut P)
     );
 }
 
-/// Writes n squares with their numbers.
+/// Writes n squares, some with numbers.
 pub fn print_grid<P: Pen>(n: u32, pen: &mut P)
     requires { n ≤ MAX_PAGES }
     ensures { P.offered pen.new ≡ P.offered pen.old ++ grid_text n }
@@ -168,17 +169,26 @@ pub fn print_grid<P: Pen>(n: u32, pen: &mut P)
     pen.put(b"<g id=\"grid\">\n");
     print_whole_rows(n, pen);
     print_rest_row(n, pen);
-    print_numbers(n, pen);
+    print_numbers(numbered(n), pen);
     pen.put(b"</g>\n");
 }
 
-/// Writes the numbers of n pages.
-fn print_numbers<P: Pen>(n: u32, pen: &mut P)
+/// How many of n pages have numbers.
+fn numbered(n: u32) -> u32
     requires { n ≤ MAX_PAGES }
-    ensures { P.offered pen.new ≡ P.offered pen.old ++ flat_map number_text (range_with_len 0 n) }
+    ensures value { result ≡ numbered_of n }
+    ensures few { NUMBERED * result ≤ MAX_PAGES + 3 }
+{
+    (n + (NUMBERED - 1)) / NUMBERED
+}
+
+/// Writes the first n numbers of pages that are written.
+fn print_numbers<P: Pen>(n: u32, pen: &mut P)
+    requires { NUMBERED * n ≤ MAX_PAGES + 3 }
+    ensures { P.offered pen.new ≡ P.offered pen.old ++ flat_map numbered_text (range_with_len 0 n) }
 {
     for k in 0..n {
-        print_number(k, pen);
+        print_number(NUMBERED * k, pen);
     }
 }
 

@@ -15,7 +15,7 @@ ghost use Rattle.rh_sheet.specs.SheetRows.{row_text, rows_text};
 ghost use Rattle.rh_sheet.specs.declared.sizes.TheConstants.{BASELINE, CHIP_LEFT, CHIP_WIDTH};
 
 use crate::boxes::{Extent, print_box, print_words};
-use crate::frames::{page_in, row_y, shown_rows};
+use crate::frames::{first_beside, page_in, row_y, shown_rows};
 use crate::pieces::print_pieces;
 use crate::tints::{Tint, add_tint};
 use rh_defs::sizes::PAGE;
@@ -93,17 +93,17 @@ fn print_chip<P: Pen>(tint: Tint, y: u32, number: u16, pen: &mut P)
 }
 
 /// Writes page k of an area, which it has, with all that lies in it.
-fn print_page_row<P: Pen>(plot: &Plot<'_>, y: u32, k: usize, pen: &mut P)
+fn print_page_row<P: Pen>(plot: &Plot<'_>, y: u32, low: usize, k: usize, pen: &mut P)
     requires start { plot.now.start < 2 ^ 30 }
     requires height { y ≤ 800 }
     requires few { length plot.now.pages.now ≤ MAX_PAGES }
     requires within { k < length plot.now.pages.now }
     requires pieces { AreDrawable plot.now.pieces.now }
-    ensures { P.offered pen.new ≡ P.offered pen.old ++ page_row_text (plot_of plot.now) y k }
+    ensures { P.offered pen.new ≡ P.offered pen.old ++ page_row_text (plot_of plot.now) y low k }
 {
     print_chip(plot.tint, y, plot.pages[k], pen);
     print_page_box(b"row", y, pen);
-    print_pieces(plot.start, plot.tint, y, k, plot.pieces, pen);
+    print_pieces(plot.start, plot.tint, y, low, k, plot.pieces, pen);
 }
 
 /// Writes the address of page k of an area.
@@ -120,33 +120,33 @@ fn print_address<P: Pen>(start: u32, y: u32, k: usize, pen: &mut P)
 }
 
 /// Writes page k of an area, or an empty row where it was given back.
-fn print_page<P: Pen>(plot: &Plot<'_>, y: u32, k: usize, pen: &mut P)
+fn print_page<P: Pen>(plot: &Plot<'_>, y: u32, low: usize, k: usize, pen: &mut P)
     requires start { plot.now.start < 2 ^ 30 }
     requires height { y ≤ 800 }
     requires few { length plot.now.pages.now ≤ MAX_PAGES }
     requires pieces { AreDrawable plot.now.pieces.now }
     ensures { P.offered pen.new ≡ P.offered pen.old
-        ++ (if nat_lt k (length plot.now.pages.now) then page_row_text (plot_of plot.now) y k
+        ++ (if nat_lt k (length plot.now.pages.now) then page_row_text (plot_of plot.now) y low k
         else box_text (page_box (codes "gone") y)) }
 {
     if k < plot.pages.len() {
-        print_page_row(plot, y, k, pen);
+        print_page_row(plot, y, low, k, pen);
     } else {
         print_page_box(b"gone", y, pen);
     }
 }
 
 /// Writes page k of an area by its address; one that was given back is an empty row.
-fn print_addressed<P: Pen>(plot: &Plot<'_>, y: u32, k: usize, pen: &mut P)
+fn print_addressed<P: Pen>(plot: &Plot<'_>, y: u32, low: usize, k: usize, pen: &mut P)
     requires start { plot.now.start < 2 ^ 30 }
     requires height { y ≤ 800 }
     requires few { length plot.now.pages.now ≤ MAX_PAGES }
     requires page { k < MAX_PAGES }
     requires pieces { AreDrawable plot.now.pieces.now }
-    ensures { P.offered pen.new ≡ P.offered pen.old ++ addressed_text (plot_of plot.now) y k }
+    ensures { P.offered pen.new ≡ P.offered pen.old ++ addressed_text (plot_of plot.now) y low k }
 {
     print_address(plot.start, y, k, pen);
-    print_page(plot, y, k, pen);
+    print_page(plot, y, low, k, pen);
 }
 
 /// Writes the row that counts the pages between the ends of n.
@@ -179,7 +179,7 @@ pub fn print_row<P: Pen>(frame: Frame, plot: &Plot<'_>, i: usize, pen: &mut P)
     let y = row_y(frame, i);
     match page_in(frame.pages, i) {
         None => print_gap(frame.pages, y, pen),
-        Some(k) => print_addressed(plot, y, k, pen),
+        Some(k) => print_addressed(plot, y, first_beside(frame.pages, i), k, pen),
     }
 }
 

@@ -29,7 +29,7 @@ use Rattle.rh_sheet.specs.Arrows
 use Rattle.rh_sheet.specs.SheetAreas
 use Rattle.rh_sheet.specs.Chart
 use Rattle.rh_sheet.specs.Fates.{Fate, Queued, Taken, Held, Answered, Back, Returned, Vanished}
-use Rattle.rh_sheet.specs.Frames.{Frame, shown_rows, page_in, row_y, rows_top, rows_foot, frame_height}
+use Rattle.rh_sheet.specs.Frames.{first_beside, Frame, shown_rows, page_in, row_y, rows_top, rows_foot, frame_height}
 use Rattle.rh_sheet.specs.declared.sizes.TheConstants.{ROW_WIDTH, CELL, POOL_COLUMNS, POOL_NAME_Y, POOL_NOTE_Y, FIGURE_WIDTH, FRAME_EDGE, LENS_HEIGHT}
 use Rattle.rh_sheet.specs.declared.sizes.TheConstants.{CHART_WIDTH, CHART_EDGE}
 use Rattle.rh_sheet.specs.WellFormed.{Words, Within, Quoted, read_on}
@@ -81,11 +81,15 @@ grid-whole n = record {
   reads = λ around. through
       (around, Words)
       (Fixed (codes "<g id=\"grid\">\n") ∷ Stays (Pool.whole_rows_text n) ∷ Stays (Pool.rest_row_text n)
-      ∷ Stays (flat_map Pool.number_text (range_with_len 0 n)) ∷ Fixed (codes "</g>\n") ∷ []) (
+      ∷ Stays (flat_map Pool.numbered_text (range_with_len 0 (Pool.numbered n))) ∷ Fixed (codes "</g>\n") ∷ []) (
         (whole-so (nat_le POOL_COLUMNS n) _ (grid-row 0 ROW_WIDTH (CELL * (n / POOL_COLUMNS)))).reads (codes "g" ∷ around),
         (
           (whole-so (not (n % POOL_COLUMNS == 0)) _ (grid-row (CELL * (n / POOL_COLUMNS)) (CELL * (n % POOL_COLUMNS)) CELL)).reads (codes "g" ∷ around),
-          ((whole-all Pool.number_text (range_with_len 0 n) (λ k. words-whole (codes "num") _ _ _ (plain refl))).reads (codes "g" ∷ around), tt),
+          (
+            (whole-all Pool.numbered_text (range_with_len 0 (Pool.numbered n)) (λ k. words-whole (codes "num") _ _ _ (plain refl))).reads
+                (codes "g" ∷ around),
+            tt,
+          ),
         ),
       );
 }
@@ -149,40 +153,40 @@ piece-value tint kind fresh value = value-both
     (value-so (SheetPieces.is_tinted kind) (codes " " ++ tint) (value-both (codes " ") tint (plain refl) value))
     (value-both (fresh_class fresh) [] (fresh-value fresh) value-none))
 
-piece-whole : (start : ℕ) (tint : Text) (y k : ℕ) (p : drawn.Piece) → Value tint → Whole (SheetPieces.piece_text start tint y k p)
-piece-whole start tint y k p value = whole-so _ _ (whole-both
-    (box_text (SheetPieces.piece_box start tint y k p)) (SheetPieces.piece_label y k p)
+piece-whole : (start : ℕ) (tint : Text) (y low k : ℕ) (p : drawn.Piece) → Value tint → Whole (SheetPieces.piece_text start tint y low k p)
+piece-whole start tint y low k p value = whole-so _ _ (whole-both
+    (box_text (SheetPieces.piece_box start tint y k p)) (SheetPieces.piece_label y low k p)
     (box-whole (SheetPieces.piece_box start tint y k p) (piece-value tint p.kind p.fresh value))
     (words-whole _ _ _ _ (value-both (codes "lab ") (SheetPieces.kind_class p.kind) (plain refl) (kind-value p.kind))))
 
-page-row-whole : (g : SheetRows.Plot) (y k : ℕ) → Value g.tint → Whole (SheetRows.page_row_text g y k)
-page-row-whole g y k value = record {
+page-row-whole : (g : SheetRows.Plot) (y low k : ℕ) → Value g.tint → Whole (SheetRows.page_row_text g y low k)
+page-row-whole g y low k value = record {
   reads = λ around. through
       (around, Words)
       (Stays (SheetRows.chip_text g.tint y (slice_index g.pages k)) ∷ Stays (box_text (SheetRows.page_box (codes "row") y))
-      ∷ Stays (SheetPieces.pieces_text g.start g.tint y k g.pieces) ∷ []) (
+      ∷ Stays (SheetPieces.pieces_text g.start g.tint y low k g.pieces) ∷ []) (
         (whole-both (box_text (SheetRows.chip_box g.tint y)) _ (box-whole (SheetRows.chip_box g.tint y) (value-both (codes "chip ") g.tint (plain refl) value))
             (words-whole (codes "chipn") _ _ _ (plain refl))).reads around,
         (
           (box-whole (SheetRows.page_box (codes "row") y) (plain refl)).reads around,
-          ((whole-all (SheetPieces.piece_text g.start g.tint y k) g.pieces (λ p. piece-whole g.start g.tint y k p value)).reads around, tt),
+          ((whole-all (SheetPieces.piece_text g.start g.tint y low k) g.pieces (λ p. piece-whole g.start g.tint y low k p value)).reads around, tt),
         ),
       );
 }
 
-addressed-whole : (g : SheetRows.Plot) (y k : ℕ) → Value g.tint → Whole (SheetRows.addressed_text g y k)
-addressed-whole g y k value = whole-both
+addressed-whole : (g : SheetRows.Plot) (y low k : ℕ) → Value g.tint → Whole (SheetRows.addressed_text g y low k)
+addressed-whole g y low k value = whole-both
     _ _ (words-whole (codes "addr") _ _ _ (plain refl))
     (whole-if
-    (nat_lt k (length g.pages)) (SheetRows.page_row_text g y k) (box_text (SheetRows.page_box (codes "gone") y))
-    (page-row-whole g y k value) (box-whole (SheetRows.page_box (codes "gone") y) (plain refl)))
+    (nat_lt k (length g.pages)) (SheetRows.page_row_text g y low k) (box_text (SheetRows.page_box (codes "gone") y))
+    (page-row-whole g y low k value) (box-whole (SheetRows.page_box (codes "gone") y) (plain refl)))
 
 row-whole : (f : Frame) (g : SheetRows.Plot) (i : ℕ) → Value g.tint → Whole (SheetRows.row_text f g i)
 row-whole f g i value = of_page (page_in f.pages i)
   where
     of_page : (o : Option ℕ) → Whole (SheetRows.row_of f g i o)
     of_page None = words-whole (codes "gap") _ _ _ (plain refl)
-    of_page (Some k) = addressed-whole g (row_y f i) k value
+    of_page (Some k) = addressed-whole g (row_y f i) (first_beside f.pages i) k value
 
 rows-whole : (f : Frame) (g : SheetRows.Plot) → Value g.tint → Whole (SheetRows.rows_text f g)
 rows-whole f g value = whole-all (SheetRows.row_text f g) (range_with_len 0 (shown_rows f.pages)) (λ i. row-whole f g i value)

@@ -19,6 +19,10 @@ page_in n i =
     else if i == EDGE_ROWS then None
     else Some (n + i - MOST_ROWS)
 
+-- the lowest page of those whose rows stand together with row i from below of n pages
+abbrev pub first_beside : ℕ → ℕ → ℕ
+first_beside n i = if nat_le n MOST_ROWS || nat_lt i EDGE_ROWS then 0 else n - EDGE_ROWS
+
 -- the row of page k of n pages, where it has one
 abbrev pub frame_row : ℕ → ℕ → Option ℕ
 frame_row n k =

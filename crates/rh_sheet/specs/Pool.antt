@@ -10,7 +10,7 @@ use Rattle.rh_figure.specs.Phrases.{Text, where_so, listed_numbers, owner_name}
 use Rattle.rh_figure.specs.Changes.{taken_pages, freed_pages, taken_line, freed_line}
 use Rattle.rh_sheet.specs.Markup.{Box, box_text, fresh_class, escape, text_attribute, words_text, point_text, svg_text}
 use Rattle.rh_sheet.specs.Owners.{owner_class, owner_tag}
-use Rattle.rh_sheet.specs.declared.sizes.TheConstants.{LEFT, ROW_WIDTH, FIGURE_WIDTH, CELL, POOL_COLUMNS, FRAME_EDGE, NUMBER_INDENT, NUMBER_BASELINE, TAG_BASELINE, POOL_NAME_Y, POOL_NOTE_Y}
+use Rattle.rh_sheet.specs.declared.sizes.TheConstants.{LEFT, ROW_WIDTH, FIGURE_WIDTH, CELL, POOL_COLUMNS, FRAME_EDGE, NUMBERED, NUMBER_INDENT, NUMBER_BASELINE, TAG_BASELINE, POOL_NAME_Y, POOL_NOTE_Y}
 
 -- ---- squares
 
@@ -65,10 +65,18 @@ rest_row_text n =
 abbrev pub number_text : ℕ → Text
 number_text k = words_text (codes "num") (cell_x k + NUMBER_INDENT) (cell_y k + NUMBER_BASELINE) (decimal k)
 
--- n squares with their numbers
+-- how many of n pages have numbers: the first one, and each fourth behind it
+abbrev pub numbered : ℕ → ℕ
+numbered n = (n + (NUMBERED - 1)) / NUMBERED
+
+-- the ith of these numbers
+abbrev pub numbered_text : ℕ → Text
+numbered_text i = number_text (NUMBERED * i)
+
+-- n squares, some with numbers
 abbrev pub grid_text : ℕ → Text
 grid_text n = concat (
-    codes "<g id=\"grid\">\n" ∷ whole_rows_text n ∷ rest_row_text n ∷ flat_map number_text (range_with_len 0 n)
+    codes "<g id=\"grid\">\n" ∷ whole_rows_text n ∷ rest_row_text n ∷ flat_map numbered_text (range_with_len 0 (numbered n))
     ∷ codes "</g>\n" ∷ []
     )
 

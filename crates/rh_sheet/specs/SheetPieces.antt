@@ -1,7 +1,8 @@
 -- The pieces of an area as rectangles in the rows of its pages. Read Layout of rh_figure and Markup first.
--- p is a piece, k a page of the area or an anchor, n a size, y units from above.
+-- p is a piece, k a page of the area or an anchor, low the lowest page of those whose rows stand together with that of
+-- page k, n a size, y units from above.
 -- `-` of naturals stops at 0: a piece that begins below a page has its first byte there at 0 (*low_in*).
-use Rattle.std.specs.Prelude.{ℕ, ◌+◌, ◌-◌, ◌*◌, ◌/◌, ◌==◌, nat_le, nat_lt, min, ◌&&◌, Bool, true, false, if◌then◌else◌, List, [], ◌∷◌, ◌++◌, length, codes}
+use Rattle.std.specs.Prelude.{ℕ, ◌+◌, ◌-◌, ◌*◌, ◌/◌, ◌==◌, nat_le, nat_lt, max, min, ◌&&◌, ◌||◌, not, Bool, true, false, if◌then◌else◌, List, [], ◌∷◌, ◌++◌, length, codes}
 use Rattle.std.specs.List.{concat, flat_map}
 use Rattle.std.specs.Fmt.{decimal}
 use Rattle.rh_defs.specs.Pieces.{page_size}
@@ -116,17 +117,29 @@ piece_box start tint y k p = record {
   tip = tip_of p.kind (start + p.at) p.size;
 }
 
--- the label of a piece in the row of page k
-abbrev pub piece_label : ℕ → ℕ → Piece → Text
-piece_label y k p = words_text
+-- the lowest page from page low on in which a piece has bytes
+abbrev pub first_page : ℕ → Piece → ℕ
+first_page low p = max low (p.at / page_size)
+
+-- Whether a row below that of page k has the label of a piece: the lowest one, or the next one, which it fills, where it
+-- goes on above that.
+abbrev pub is_labelled_below : ℕ → ℕ → Piece → Bool
+is_labelled_below low k p =
+    nat_lt (first_page low p) k
+    && (nat_lt (first_page low p + 1) k
+    || has_room LABEL_EDGE (label_of p.kind p.size) (piece_width (first_page low p) p))
+
+-- the label of a piece in the row of page k, where no row below has it
+abbrev pub piece_label : ℕ → ℕ → ℕ → Piece → Text
+piece_label y low k p = words_text
     (codes "lab " ++ kind_class p.kind) (LEFT + piece_x k p + piece_width k p / 2) (y + BASELINE)
-    (fitting p.kind p.size (piece_width k p))
+    (where_so (not (is_labelled_below low k p)) (fitting p.kind p.size (piece_width k p)))
 
 -- a piece in the row of page k, if it has bytes there
-abbrev pub piece_text : ℕ → Text → ℕ → ℕ → Piece → Text
-piece_text start tint y k p =
-    where_so (nat_lt (low_in k p) (high_in k p)) (box_text (piece_box start tint y k p) ++ piece_label y k p)
+abbrev pub piece_text : ℕ → Text → ℕ → ℕ → ℕ → Piece → Text
+piece_text start tint y low k p =
+    where_so (nat_lt (low_in k p) (high_in k p)) (box_text (piece_box start tint y k p) ++ piece_label y low k p)
 
 -- all pieces that have bytes in page k
-abbrev pub pieces_text : ℕ → Text → ℕ → ℕ → List Piece → Text
-pieces_text start tint y k pieces = flat_map (piece_text start tint y k) pieces
+abbrev pub pieces_text : ℕ → Text → ℕ → ℕ → ℕ → List Piece → Text
+pieces_text start tint y low k pieces = flat_map (piece_text start tint y low k) pieces

@@ -59,10 +59,13 @@ pub const TAG_LETTERS: usize = 3;
 /// So many tints of tasks take turns.
 pub const TINTS: u32 = 6;
 
+/// One of so many squares of the pool has the number of its page.
+pub const NUMBERED: u32 = 4;
+
 /// From a square's left edge to the number of its page, and down to the line that the number stands on.
 pub const NUMBER_INDENT: u32 = 3;
 
-pub const NUMBER_BASELINE: u32 = 12;
+pub const NUMBER_BASELINE: u32 = 14;
 
 /// From a square's upper edge to the line that a tag stands on.
 pub const TAG_BASELINE: u32 = 26;

@@ -59,7 +59,7 @@ svg { display: block; width: 100%; height: auto; overflow: visible; }
 text { font-size: 16px; fill: var(--text); }
 .side { font-weight: bold; }
 .small { font-size: 14px; fill: var(--quiet); }
-.num { font-size: 11px; fill: #717a84; }
+.num { font-size: 18px; fill: #505963; }
 .tag { font-size: 13px; font-weight: bold; text-anchor: middle; }
 .addr { fill: var(--quiet); }
 .chipn { font-size: 14px; text-anchor: middle; }

@@ -7,4 +7,4 @@ use Rattle.rh_elements.proofs.pieces.print_pieces.Given as goal
 abbrev pub invariant-loop-piece : goal.invariant-loop-piece
 invariant-loop-piece g l =
     g.P.Pen.offered l.pen
-    ≡ g.P.Pen.offered l.initial.pen ++ pieces_text l.start (tint_class l.tint) l.y l.k (take l.piece-index l.pieces)
+    ≡ g.P.Pen.offered l.initial.pen ++ pieces_text l.start (tint_class l.tint) l.y l.low l.k (take l.piece-index l.pieces)
