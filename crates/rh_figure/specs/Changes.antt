@@ -1,7 +1,7 @@
 -- What a command has changed, in words. Read Scene first.
 -- x is the scene, o an owner with its number of pages, k an anchor, n a number of a page, b a flex block.
-use Rattle.std.specs.Prelude.{ℕ, ◌-◌, ◌==◌, nat_lt, ◌&&◌, not, Bool, if◌then◌else◌, List, [], ◌∷◌, ◌++◌, length, drop, map, filter, find, codes, Option, Some, None}
-use Rattle.std.specs.List.{list_any, flat_map, concat}
+use Rattle.std.specs.Prelude.{ℕ, ◌-◌, ◌==◌, nat_le, nat_lt, ◌&&◌, not, Bool, if◌then◌else◌, List, [], ◌∷◌, ◌++◌, length, drop, map, filter, find, codes, Option, Some, None}
+use Rattle.std.specs.List.{list_all, list_any, flat_map, concat}
 use Rattle.std.specs.Fmt.{decimal}
 use Rattle.rh_defs.specs.declared.question.BlockItem.{BlockItem}
 use Rattle.rh_defs.specs.declared.message.Action.{Action}
@@ -11,10 +11,71 @@ use Rattle.rh_defs.specs.declared.message.Letter.{Letter}
 use Rattle.rh_defs.specs.Messages.{Parcel, action_of}
 use Rattle.rh_defs.specs.Desk.{Task, task_at}
 use Rattle.rh_defs.specs.Questions.{block_items}
-use Rattle.rh_defs.specs.Text.{action_name, address}
+use Rattle.rh_defs.specs.Bytes.{space}
+use Rattle.rh_defs.specs.Text.{action_name, address, on_or_off}
 use Rattle.rh_figure.specs.Share.{Holding, count_of, holdings}
-use Rattle.rh_figure.specs.Scene.{Scene, waiting}
-use Rattle.rh_figure.specs.Phrases.{Text, size_text, listed_numbers, task_name, owner_name, is_returned}
+use Rattle.rh_figure.specs.Scene.{Scene, Effect, NoEffect, Begun, Ended, Budging, Longer, Shorter, Made, Removed, GivenUp, Written, waiting}
+use Rattle.rh_figure.specs.Phrases.{Text, area_name, size_text, pages_text, where_so, listed_numbers, task_name, owner_name, is_returned}
+use Rattle.rh_figure.specs.declared.limits.TheConstants.{MOST_TOLD}
+
+-- ---- effects
+
+abbrev pub begun_line : Text → ℕ → Text
+begun_line name handle = concat (codes "Task " ∷ name ∷ codes " begins, with handle " ∷ decimal handle ∷ [])
+
+abbrev pub ended_line : Text → Text
+ended_line name = concat (codes "Task " ∷ name ∷ codes " ends, and its slot, records and blocks with it" ∷ [])
+
+-- whether budging is on for a task, and whether it was before
+abbrev pub budging_line : Text → Bool → Bool → Text
+budging_line name was on = concat (
+    codes "Budging is " ∷ on_or_off on ∷ codes " for " ∷ name
+    ∷ where_so (if was then on else not on) (codes ", as before") ∷ []
+    )
+
+abbrev pub moved_line : ℕ → ℕ → Text → Text
+moved_line k n more = concat (area_name k ∷ codes " has " ∷ size_text n ∷ more ∷ [])
+
+abbrev pub made_line : ℕ → ℕ → Text
+made_line k most =
+    concat (area_name k ∷ codes " is made: no page yet, " ∷ pages_text most ∷ codes " at most" ∷ [])
+
+abbrev pub removed_line : ℕ → Text
+removed_line k = area_name k ++ codes " is taken away"
+
+abbrev pub given_up_line : Text → Text
+given_up_line name = name ++ codes " gives a transfer up; the other end isn't told"
+
+-- a byte of a text
+abbrev pub is_text_byte : ℕ → Bool
+is_text_byte b = nat_le space b && nat_lt b 127
+
+-- whether bytes are few, and each is one of a text
+abbrev pub is_short_text : List ℕ → Bool
+is_short_text bytes = nat_le (length bytes) MOST_TOLD && list_all is_text_byte bytes
+
+-- a short text, behind a colon
+abbrev pub quoted_text : List ℕ → Text
+quoted_text bytes = where_so (is_short_text bytes) (concat (codes ": \"" ∷ bytes ∷ codes "\"" ∷ []))
+
+-- bytes that went into a block, as a text where they are one
+abbrev pub written_line : ℕ → ℕ → List ℕ → Text
+written_line k offset bytes = concat (
+    size_text (length bytes) ∷ codes " into flex block " ∷ decimal k ∷ codes " from offset " ∷ decimal offset
+    ∷ quoted_text bytes ∷ []
+    )
+
+abbrev pub effect_text : Effect → List Text
+effect_text NoEffect = []
+effect_text (Begun name handle) = begun_line name handle ∷ []
+effect_text (Ended name) = ended_line name ∷ []
+effect_text (Budging name was on) = budging_line name was on ∷ []
+effect_text (Longer k n) = moved_line k n (codes " more") ∷ []
+effect_text (Shorter k n) = moved_line k n (codes " fewer") ∷ []
+effect_text (Made k most) = made_line k most ∷ []
+effect_text (Removed k) = removed_line k ∷ []
+effect_text (GivenUp name) = given_up_line name ∷ []
+effect_text (Written k offset bytes) = written_line k offset bytes ∷ []
 
 -- ---- pages
 
@@ -157,7 +218,8 @@ post_changes x =
 -- ---- all of it
 abbrev pub changes : Scene → List Text
 changes x =
-    page_changes x
+    effect_text x.marks.effect
+    ++ page_changes x
     ++ block_changes x (task_at x.before.handle x.desk)
     ++ slide_change (slides x)
     ++ post_changes x

@@ -1,6 +1,6 @@
 -- What a picture is drawn from: a desk after a command, and what is kept of the desk before it. Read Share first.
 -- d is a desk, c the command, t a task, h a handle, s a share of the pool, b what is kept, x the whole scene.
-use Rattle.std.specs.Prelude.{ℕ, ◌==◌, nat_lt, ◌||◌, Bool, true, false, if◌then◌else◌, List, [], ◌∷◌, ◌++◌, filter, find, Option, Some, None}
+use Rattle.std.specs.Prelude.{ℕ, ℤ, pos, negsuc, ◌==◌, nat_lt, ◌||◌, Bool, true, false, if◌then◌else◌, List, [], ◌∷◌, ◌++◌, filter, find, Option, Some, None}
 use Rattle.std.specs.List.{flat_map}
 use Rattle.rh_defs.specs.declared.command.Command.{Command}
 use Rattle.rh_defs.specs.declared.command.Command.TheVariants as command
@@ -70,11 +70,27 @@ before_of d c = before_task d (task_in c d)
 
 -- ---- what the command did
 
--- The task that it names, the anchor of the block that it wrote to, the task and address of a block of a C heap, the
--- address of a block of the module area, the letter that was sent with its ref, and the ref and action of the message
--- that was taken.
+-- What a command did that nothing in the desk behind it tells: a task began with a handle, or ended; budging is on or
+-- off, and was; an area got so many bytes, or lost them; one was made, of at most so many pages, or taken away; a task
+-- gave a transfer up; bytes went into a flex block from an offset on.
+pub data Effect : Type 0 where
+  NoEffect : Effect
+  Begun : List ℕ → ℕ → Effect
+  Ended : List ℕ → Effect
+  Budging : List ℕ → Bool → Bool → Effect
+  Longer : ℕ → ℕ → Effect
+  Shorter : ℕ → ℕ → Effect
+  Made : ℕ → ℕ → Effect
+  Removed : ℕ → Effect
+  GivenUp : List ℕ → Effect
+  Written : ℕ → ℕ → List ℕ → Effect
+
+-- The task that it names, its effect, the anchor of the block that it wrote to, the task and address of a block of a C
+-- heap, the address of a block of the module area, the letter that was sent with its ref, and the ref and action of the
+-- message that was taken.
 pub record Marks : Type 0 where
   pub handle : ℕ
+  pub effect : Effect
   pub put : Option ℕ
   pub heap : ℕ × ℕ
   pub module_block : ℕ
@@ -82,7 +98,7 @@ pub record Marks : Type 0 where
   pub taken : Option (ℕ × Action)
 
 abbrev pub no_marks : Marks
-no_marks = record { handle = 0; put = None; heap = (0, 0); module_block = 0; sent = None; taken = None }
+no_marks = record { handle = 0; effect = NoEffect; put = None; heap = (0, 0); module_block = 0; sent = None; taken = None }
 
 -- whether a command asks, and changes nothing
 abbrev pub is_question : Command → Bool
@@ -127,6 +143,23 @@ abbrev pub put_mark : Command → Option ℕ
 put_mark (command.Put name k offset bytes) = Some k
 put_mark _ = None
 
+-- an area that got bytes, or lost them
+abbrev pub moved_effect : ℕ → ℤ → ℕ → Effect
+moved_effect k (pos by) n = Longer k n
+moved_effect k (negsuc by) n = Shorter k n
+
+abbrev pub effect_of : Command → Reply → Effect
+effect_of (command.Task name buffer manner) (reply.Started handle) = Begun name handle
+effect_of (command.Kill name) r = Ended name
+effect_of (command.Budge name on) (reply.WasBudging was) = Budging name was on
+effect_of (command.Area k delta) (reply.Moved n) = moved_effect k delta n
+effect_of (command.Make most) (reply.Made k) = Made k most
+effect_of (command.Remove k) r = Removed k
+effect_of (command.CancelIn name id) r = GivenUp name
+effect_of (command.CancelOut name id) r = GivenUp name
+effect_of (command.Put name k offset bytes) r = Written k offset bytes
+effect_of _ _ = NoEffect
+
 abbrev pub taken_mark : Reply → Option (ℕ × Action)
 taken_mark (reply.Event code action mine yours outcome) = Some (mine, action)
 taken_mark _ = None
@@ -134,6 +167,7 @@ taken_mark _ = None
 abbrev pub marks_for : Desk → Before → Command → Reply → Marks
 marks_for d b c r = record {
   handle = b.handle;
+  effect = effect_of c r;
   put = put_mark c;
   heap = buffer_of (sent_by b (task_at b.handle d)) (heap_mark b.handle c r);
   module_block = module_mark c r;

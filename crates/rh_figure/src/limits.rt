@@ -31,6 +31,9 @@ pub const MOST_CARDS: usize = 24;
 /// A list of numbers or messages names so many, and counts the others.
 pub const MOST_LISTED: usize = 12;
 
+/// A sentence shows so many bytes at most that were written, as a text.
+pub const MOST_TOLD: usize = 24;
+
 /// A card shows so many bytes of a block.
 pub const CARD_BYTES: usize = 7;
 

@@ -6,6 +6,7 @@ mod block_changes;
 mod cards;
 mod cells;
 mod changes;
+mod effects;
 mod front;
 mod headings;
 mod letterboxes;
@@ -38,6 +39,10 @@ pub use cells::cell_mark;
 pub use changes::{
     add_slot_name, area_takes, freed, print_area_takes, print_change, print_freed,
     print_slot_takes, slot_takes,
+};
+pub use effects::{
+    area_has_fewer, area_has_more, area_made, area_removed, budging_set, bytes_written, task_begun,
+    task_ended, transfer_given_up,
 };
 pub use front::Front;
 pub use headings::{

@@ -74,7 +74,7 @@ pub fn change<D: Drawn>(drawn: &mut D, command: &Command)
 pub fn step_of<'a, S: Sight>(
     sight: &'a S,
     kept: &'a Kept,
-    command: Option<&Command>,
+    command: Option<&'a Command>,
     reply: &Reply,
     messages: &'a Messages,
     pages: &'a PageList,

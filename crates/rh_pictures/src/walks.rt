@@ -4,6 +4,7 @@ pub mod areas;
 pub mod block_changes;
 pub mod cards;
 pub mod changes;
+pub mod effect_changes;
 pub mod flex_cards;
 pub mod heap_cards;
 pub mod letters;

@@ -5,6 +5,8 @@ use Rattle.rh_defs.specs.Desk.{Desk}
 use Rattle.rh_figure.specs.Share.{IsShared}
 use Rattle.rh_figure.specs.Scene as scene
 use Rattle.rh_figure.specs.Scene.{Before, Scene, scene_of}
+use Rattle.rh_scene.specs.declared.marks.Effect.{Effect}
+use Rattle.rh_scene.specs.declared.marks.Effect.TheVariants as variant
 use Rattle.rh_scene.specs.declared.marks.HeapBlock.{HeapBlock}
 use Rattle.rh_scene.specs.declared.marks.Marks.{Marks}
 use Rattle.rh_scene.specs.declared.step_sender.StepSender.{StepSender}
@@ -17,10 +19,24 @@ use Rattle.rh_scene.specs.Seen.{letter_seen}
 abbrev pub block_seen : HeapBlock → ℕ × ℕ
 block_seen b = (b.handle, b.address)
 
+-- what it did that nothing in the desk behind it tells
+abbrev pub effect_seen : Effect → scene.Effect
+effect_seen variant.None = scene.NoEffect
+effect_seen (variant.Begun name handle) = scene.Begun name.now handle
+effect_seen (variant.Ended name) = scene.Ended name.now
+effect_seen (variant.Budging name was on) = scene.Budging name.now was on
+effect_seen (variant.Longer number bytes) = scene.Longer number bytes
+effect_seen (variant.Shorter number bytes) = scene.Shorter number bytes
+effect_seen (variant.Made number most) = scene.Made number most
+effect_seen (variant.Removed number) = scene.Removed number
+effect_seen (variant.GivenUp name) = scene.GivenUp name.now
+effect_seen (variant.Written anchor offset bytes) = scene.Written anchor offset bytes.now
+
 -- what a command did
 abbrev pub marks_seen : Marks → scene.Marks
 marks_seen m = record {
   handle = m.handle;
+  effect = effect_seen m.effect;
   put = m.put;
   heap = block_seen m.heap;
   module_block = m.module_block;

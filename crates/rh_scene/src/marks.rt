@@ -4,18 +4,19 @@ ghost use Rattle.std.specs.Prelude.{◌≡◌, ℕ, Some};
 ghost use Rattle.std.specs.Option.{option_map};
 ghost use Rattle.rh_defs.specs.Desk.{task_at};
 ghost use Rattle.rh_defs.specs.Commands.{is_refused};
-ghost use Rattle.rh_figure.specs.Scene.{Before, buffer_of as buffer_of_sent, heap_mark as heap_mark_of};
+ghost use Rattle.rh_figure.specs.Scene.{Before, buffer_of as buffer_of_sent, effect_of as effect_of_command};
+ghost use Rattle.rh_figure.specs.Scene.{heap_mark as heap_mark_of, moved_effect as moved_effect_of};
 ghost use Rattle.rh_figure.specs.Scene.{is_question as is_question_of, is_still as is_still_of, marks_for};
 ghost use Rattle.rh_figure.specs.Scene.{marks_of as marks_of_desk, module_mark as module_mark_of, no_marks};
 ghost use Rattle.rh_figure.specs.Scene.{put_mark as put_mark_of, sent_by as sent_by_task, taken_mark as taken_mark_of};
 ghost use Rattle.rh_scene.specs.Seen.{letter_seen};
-ghost use Rattle.rh_scene.specs.Steps.{IsSender, block_seen, marks_seen};
+ghost use Rattle.rh_scene.specs.Steps.{IsSender, block_seen, effect_seen, marks_seen};
 
 use crate::kept::Kept;
 use crate::sight::Sight;
 use crate::step_sender::StepSender;
 use crate::tasks::task_with;
-use rh_defs::{Action, Anchor, Body, Command, Handle, Letter, Ref, Reply};
+use rh_defs::{Action, Anchor, Body, Bytes, Command, Handle, Letter, Name, Ref, Reply};
 
 /// A block of a C heap: its task and its address, 0 and 0 for none.
 #[derive(Clone, Copy, Debug, PartialEq, Eq)]
@@ -30,12 +31,48 @@ const NO_BLOCK: HeapBlock = HeapBlock {
     address: 0,
 };
 
-/// What a command did: the task that it names, the anchor of the block that it wrote to, the block of a C heap and
-/// that of the module area (0 for none) that it made or changed, the letter that was sent, and the message that was
-/// taken.
+/// What a command did that nothing in the desk behind it tells.
+#[derive(Clone, Copy)]
+pub enum Effect<'a> {
+    None,
+    Begun {
+        name: &'a Name,
+        handle: Handle,
+    },
+    Ended(&'a Name),
+    Budging {
+        name: &'a Name,
+        was: bool,
+        on: bool,
+    },
+    Longer {
+        number: u32,
+        bytes: u32,
+    },
+    Shorter {
+        number: u32,
+        bytes: u32,
+    },
+    Made {
+        number: u32,
+        most: u32,
+    },
+    Removed(u32),
+    GivenUp(&'a Name),
+    Written {
+        anchor: Anchor,
+        offset: u32,
+        bytes: &'a Bytes,
+    },
+}
+
+/// What a command did: the task that it names, its effect, the anchor of the block that it wrote to, the block of a C
+/// heap and that of the module area (0 for none) that it made or changed, the letter that was sent, and the message
+/// that was taken.
 #[derive(Clone, Copy)]
 pub struct Marks<'a> {
     pub handle: Handle,
+    pub effect: Effect<'a>,
     pub put: Option<Anchor>,
     pub heap: HeapBlock,
     pub module_block: u32,
@@ -48,7 +85,7 @@ impl<'a> Marks<'a> {
     pub fn new<S: Sight>(
         sight: &'a S,
         kept: &Kept,
-        command: Option<&Command>,
+        command: Option<&'a Command>,
         reply: &Reply,
     ) -> Marks<'a>
         ensures { marks_seen result ≡ marks_of_desk (S.desk sight.now) kept.now (option_map
@@ -68,6 +105,7 @@ impl<'a> Marks<'a> {
     {
         Marks {
             handle: Handle(0),
+            effect: Effect::None,
             put: None,
             heap: NO_BLOCK,
             module_block: 0,
@@ -77,7 +115,12 @@ impl<'a> Marks<'a> {
     }
 
     /// What a command that was granted did.
-    fn of_change<S: Sight>(sight: &'a S, kept: &Kept, command: &Command, reply: &Reply) -> Marks<'a>
+    fn of_change<S: Sight>(
+        sight: &'a S,
+        kept: &Kept,
+        command: &'a Command,
+        reply: &Reply,
+    ) -> Marks<'a>
         ensures { marks_seen result ≡ marks_for (S.desk sight.now) kept.now command.now reply.now }
     {
         let sent = sent_by(sight, kept.sender());
@@ -88,6 +131,7 @@ impl<'a> Marks<'a> {
         };
         Marks {
             handle: kept.handle(),
+            effect: effect_of(command, reply),
             put: put_mark(command),
             heap,
             module_block: module_mark(command, reply),
@@ -182,6 +226,60 @@ fn put_mark(command: &Command) -> Option<Anchor>
     match command {
         Command::Put { anchor, .. } => Some(*anchor),
         _ => None,
+    }
+}
+
+/// What a command did that nothing in the desk behind it tells.
+fn effect_of<'a>(command: &'a Command, reply: &Reply) -> Effect<'a>
+    ensures { effect_seen result ≡ effect_of_command command.now reply.now }
+{
+    match (command, reply) {
+        (Command::Task { name, .. }, Reply::Started(handle)) => Effect::Begun {
+            name,
+            handle: *handle,
+        },
+        (Command::Kill { name }, _) => Effect::Ended(name),
+        (Command::Budge { name, on }, Reply::WasBudging(was)) => Effect::Budging {
+            name,
+            was: *was,
+            on: *on,
+        },
+        (Command::Area { number, delta }, Reply::Moved { bytes }) => moved_effect(
+            *number, *delta, *bytes,
+        ),
+        (Command::Make { most }, Reply::Made { number }) => Effect::Made {
+            number: *number,
+            most: *most,
+        },
+        (Command::Remove { number }, _) => Effect::Removed(*number),
+        (Command::CancelIn { name, .. } | Command::CancelOut { name, .. }, _) => Effect::GivenUp(
+            name,
+        ),
+        (
+            Command::Put {
+                anchor,
+                offset,
+                bytes,
+                ..
+            },
+            _,
+        ) => Effect::Written {
+            anchor: *anchor,
+            offset: *offset,
+            bytes,
+        },
+        _ => Effect::None,
+    }
+}
+
+/// An area that got bytes, or lost them.
+fn moved_effect(number: u32, delta: i32, bytes: u32) -> Effect<'static>
+    ensures { effect_seen result ≡ moved_effect_of number delta bytes }
+{
+    if delta < 0 {
+        Effect::Shorter { number, bytes }
+    } else {
+        Effect::Longer { number, bytes }
     }
 }
 

@@ -44,6 +44,7 @@ first_step =
     ∷ codes "<nav><span>&#9664;</span> <a href=\"#d2\">&#9654;</a> <a href=\"#all\">all</a></nav>"
     ∷ codes "<h2><b>1</b> <code>task a 100</code></h2>"
     ∷ codes "<pre>ok 1</pre>"
+    ∷ codes "<p class=\"change\">Task a begins, with handle 1</p>"
     ∷ codes "<p class=\"change\">Slot a takes page 6</p>"
     ∷ codes "</div>"
     ∷ codes "<div class=\"memory\">"

@@ -82,6 +82,7 @@ MARKED_MAP = """\
 # of two pages
 4  make 2
 ok 256
+  Area 256 is made: no page yet, 2 pages at most
 
 Pool: 6 of 8 pages free
             0 |......a1

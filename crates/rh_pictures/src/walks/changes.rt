@@ -7,12 +7,14 @@ ghost use Rattle.rh_scene.specs.Steps.{IsStepOf, scene_at};
 use crate::artist::Artist;
 use crate::lists::Lists;
 use crate::walks::block_changes::show_block_changes;
+use crate::walks::effect_changes::show_effect;
 use crate::walks::page_changes::show_page_changes;
 use crate::walks::post_changes::show_post_changes;
 use rh_lines::Pen;
 use rh_scene::{Sight, Step};
 
-/// Shows what a step has changed: of the pool, of the named task's flex blocks, and of the messages.
+/// Shows what a step has changed: its effect, and what has changed of the pool, of the named task's flex blocks, and of
+/// the messages.
 pub fn show_changes<S: Sight, A: Artist, P: Pen>(
     sight: &S,
     step: &Step<'_>,
@@ -24,6 +26,7 @@ pub fn show_changes<S: Sight, A: Artist, P: Pen>(
     ensures { P.offered pen.new ≡ P.offered pen.old
         ++ flat_map A.change_text (changes (scene_at (S.desk sight.now) step.now)) }
 {
+    show_effect(&step.marks.effect, artist, pen);
     show_page_changes(sight, step, artist, pen);
     show_block_changes(sight, step, &mut lists.blocks, artist, pen);
     show_post_changes(sight, step, artist, pen);
