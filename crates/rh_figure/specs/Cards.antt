@@ -115,7 +115,7 @@ after_ref ref [] = []
 after_ref ref (p ∷ ps) = if p.message.my_ref == ref then ps else after_ref ref ps
 
 abbrev pub next_text : List Parcel → Text
-next_text [] = codes "last"
+next_text [] = codes "none behind"
 next_text (p ∷ ps) = codes "then " ++ decimal p.message.my_ref
 
 -- where a message stands in the chain of its task

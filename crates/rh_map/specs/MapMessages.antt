@@ -15,7 +15,7 @@ use Rattle.rh_map.specs.MapTasks.{who_text}
 abbrev pub place_text : ChainPlace → Text
 place_text Held = codes "held"
 place_text (Before next) = codes "then " ++ decimal next
-place_text Last = codes "last"
+place_text Last = codes "none behind"
 
 -- the card of a message
 abbrev pub card_of : CardMessage → Card

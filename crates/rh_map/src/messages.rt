@@ -118,7 +118,7 @@ fn add_place(row: &mut Row, place: ChainPlace)
             row.text(b"then ");
             row.decimal(next.0);
         }
-        ChainPlace::Last => row.text(b"last"),
+        ChainPlace::Last => row.text(b"none behind"),
     }
 }
 

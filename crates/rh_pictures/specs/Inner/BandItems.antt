@@ -30,4 +30,4 @@ pub record IsItemOf (m : MessageItem) (p : Parcel) : Type 0 where
 abbrev pub place_seen : Place → Text
 place_seen Held = codes "held"
 place_seen (Before next) = codes "then " ++ decimal next
-place_seen Last = codes "last"
+place_seen Last = codes "none behind"
