@@ -166,7 +166,7 @@ pub const WORDS_ASIDE: u32 = 14;
 pub const WORDS_DOWN: u32 = 21;
 
 /// From the beginning of an arrow of a message that waits to its words: to the side, and down.
-pub const STUB_ASIDE: u32 = 36;
+pub const STUB_ASIDE: u32 = 40;
 
 pub const STUB_DOWN: u32 = 13;
 
