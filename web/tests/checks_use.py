@@ -68,7 +68,7 @@ def check_steps(bench):
         page.tab.key("F8", "Shift")
         page.tab.key("F8", "Shift")
         page.tab.key("F8", "Shift")
-        changes = ["Slot a takes page 61", "Flex block 0 is new"]
+        changes = ["Slot a takes page 61", "Flex block 0 is new: 5 bytes at &9008"]
         same(page.text("said"), ". ".join(["Line 3, alloc a 0 5: ok &9008", *changes]), "what is said")
         same(page.value("document.querySelector('#changes').innerText"), "\n".join(changes), "what has changed")
         for _ in range(9):

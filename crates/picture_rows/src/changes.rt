@@ -18,7 +18,7 @@ pub(crate) fn print_changes<P: Pen>(a: &Name, b: &Name, pen: &mut P) {
 }
 
 fn print_blocks<P: Pen>(pen: &mut P) {
-    print_block_new(Anchor(0), pen);
+    print_block_new(Anchor(0), 5, 0x9008, pen);
     print_block_resized(Anchor(0), 0, 5, pen);
     print_block_resized(Anchor(63), 1, 0, pen);
     print_block_gone(Anchor(7), pen);

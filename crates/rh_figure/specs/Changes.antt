@@ -120,10 +120,12 @@ blocks_now None = []
 blocks_now (Some t) = block_items t.slot
 
 abbrev pub gone_line : ℕ → Text
-gone_line k = concat (codes "Flex block " ∷ decimal k ∷ codes " is gone" ∷ [])
+gone_line k = concat (codes "Flex block " ∷ decimal k ∷ codes " is gone, and anchor " ∷ decimal k ∷ codes " is 0" ∷ [])
 
-abbrev pub new_line : ℕ → Text
-new_line k = concat (codes "Flex block " ∷ decimal k ∷ codes " is new" ∷ [])
+-- a block of so many bytes at an address
+abbrev pub new_line : ℕ → ℕ → ℕ → Text
+new_line k n at =
+    concat (codes "Flex block " ∷ decimal k ∷ codes " is new: " ∷ size_text n ∷ codes " at " ∷ address at ∷ [])
 
 -- a block that had so many bytes, and has another number now
 abbrev pub resized_line : ℕ → ℕ → ℕ → Text
@@ -131,7 +133,7 @@ resized_line k had has =
     concat (codes "Flex block " ∷ decimal k ∷ codes " had " ∷ size_text had ∷ codes ", now " ∷ decimal has ∷ [])
 
 abbrev pub block_change : BlockItem → Option BlockItem → List Text
-block_change b None = new_line b.anchor ∷ []
+block_change b None = new_line b.anchor b.size b.address ∷ []
 block_change b (Some old) = if old.size == b.size then [] else resized_line b.anchor old.size b.size ∷ []
 
 -- the blocks of the named task, while it lives, against those before
@@ -165,9 +167,15 @@ abbrev pub way_text : ℕ → ℕ → Text
 way_text from to =
     if nat_lt from to then codes " up by " ++ size_text (to - from) else codes " down by " ++ size_text (from - to)
 
+-- what the anchors of so many blocks that slid hold, of which the lowest lies at an address now
+abbrev pub anchors_told : ℕ → ℕ → Text
+anchors_told n to =
+    if n == 1 then concat (codes ": its anchor holds " ∷ address to ∷ codes " now" ∷ [])
+    else codes ": their anchors hold the new addresses"
+
 -- so many blocks, of which the lowest slid from one address to another
 abbrev pub slide_line : ℕ → ℕ → ℕ → Text
-slide_line n from to = who_slides n ++ way_text from to
+slide_line n from to = concat (who_slides n ∷ way_text from to ∷ anchors_told n to ∷ [])
 
 -- all blocks that slide in one command slide equally far
 abbrev pub slide_change : List Slide → List Text

@@ -1,7 +1,8 @@
 //! What a command has changed of a task's flex blocks.
 
 ghost use Rattle.std.specs.Prelude.{◌≡◌, ◌≤◌, ◌≢◌, ◌+◌, ◌++◌, codes, length};
-ghost use Rattle.rh_figure.specs.Changes.{gone_line, new_line, resized_line, slide_line, way_text, who_slides};
+ghost use Rattle.rh_figure.specs.Changes.{anchors_told, gone_line, new_line, resized_line, slide_line, way_text};
+ghost use Rattle.rh_figure.specs.Changes.{who_slides};
 ghost use Rattle.rh_figure.specs.Map.{shown_line};
 ghost use Rattle.rh_lines.specs.declared.row.TheConstants.{ROW};
 
@@ -28,26 +29,32 @@ pub fn block_gone(anchor: Anchor) -> Row
     let mut row = Row::new();
     row.text(BLOCK);
     row.decimal(u32::from(anchor.0));
-    row.text(b" is gone");
+    row.text(b" is gone, and anchor ");
+    row.decimal(u32::from(anchor.0));
+    row.text(b" is 0");
     row
 }
 
-/// Writes that a flex block is new.
-pub fn print_block_new<P: Pen>(anchor: Anchor, pen: &mut P)
-    ensures { P.offered pen.new ≡ P.offered pen.old ++ (shown_line (codes "  " ++ new_line anchor) ++ codes "\n") }
+/// Writes that a flex block of so many bytes at an address is new.
+pub fn print_block_new<P: Pen>(anchor: Anchor, size: u32, address: u32, pen: &mut P)
+    ensures { P.offered pen.new ≡ P.offered pen.old
+        ++ (shown_line (codes "  " ++ new_line anchor size address) ++ codes "\n") }
 {
-    print_change(&block_new(anchor), pen);
+    print_change(&block_new(anchor, size, address), pen);
 }
 
-/// That a flex block is new.
-pub fn block_new(anchor: Anchor) -> Row
-    ensures value { result ≡ new_line anchor }
+/// That a flex block of so many bytes at an address is new.
+pub fn block_new(anchor: Anchor, size: u32, address: u32) -> Row
+    ensures value { result ≡ new_line anchor size address }
     ensures few { length result ≤ 200 }
 {
     let mut row = Row::new();
     row.text(BLOCK);
     row.decimal(u32::from(anchor.0));
-    row.text(b" is new");
+    row.text(b" is new: ");
+    add_size(&mut row, size);
+    row.text(b" at ");
+    row.address(address);
     row
 }
 
@@ -90,6 +97,7 @@ pub fn blocks_slide(count: u32, from: u32, to: u32) -> Row
     let mut row = Row::new();
     add_sliding(&mut row, count);
     add_way(&mut row, from, to);
+    add_anchors(&mut row, count, to);
     row
 }
 
@@ -119,5 +127,20 @@ fn add_way(row: &mut Row, from: u32, to: u32)
     } else {
         row.text(b" down by ");
         add_size(row, from - to);
+    }
+}
+
+/// Adds what the anchors of so many blocks hold, the lowest of which lies at an address.
+fn add_anchors(row: &mut Row, count: u32, to: u32)
+    requires { length row.old + 40 ≤ ROW }
+    ensures value { row.new ≡ row.old ++ anchors_told count to }
+    ensures few { length row.new ≤ length row.old + 40 }
+{
+    if count == 1 {
+        row.text(b": its anchor holds ");
+        row.address(to);
+        row.text(b" now");
+    } else {
+        row.text(b": their anchors hold the new addresses");
     }
 }

@@ -103,7 +103,7 @@ second_step =
     ∷ codes "<h2><b>3</b> <code>alloc a 0 5</code></h2>"
     ∷ codes "<pre>ok &amp;9008</pre>"
     ∷ codes "<p class=\"change\">Slot a takes page 5</p>"
-    ∷ codes "<p class=\"change\">Flex block 0 is new</p>"
+    ∷ codes "<p class=\"change\">Flex block 0 is new: 5 bytes at &amp;9008</p>"
     ∷ codes "</div>"
     ∷ codes "<div class=\"memory\">"
     ∷ codes "<svg viewBox=\"0 0 1176 34\" role=\"img\">"

@@ -88,7 +88,7 @@ fn show_block_change<A: Artist, P: Pen>(kept: &Kept, block: &BlockItem, artist: 
         ++ flat_map A.change_text (block_change block.now (item_with_anchor block.now.anchor kept.now.blocks)) }
 {
     match kept.block(block.anchor) {
-        None => artist.change(&block_new(block.anchor), pen),
+        None => artist.change(&block_new(block.anchor, block.size, block.address), pen),
         Some(old) if old.size != block.size => {
             artist.change(&block_resized(block.anchor, old.size, block.size), pen);
         }

@@ -7,5 +7,5 @@ pub returns-in-None : goal.returns-in-None
 returns-in-None g c =
     let b = c.args.block.now in
     let element = g.A.Artist.change_text in
-    offered_as _ (ap element c.block_new.ensures.value ∙ (sym (parts-one element (new_line b.anchor))
+    offered_as _ (ap element c.block_new.ensures.value ∙ (sym (parts-one element (new_line b.anchor b.size b.address))
     ∙ ap (λ o. flat_map element (block_change b o)) (sym c.in-None.is ∙ c.block.ensures))) c.change.ensures
