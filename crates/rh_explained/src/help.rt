@@ -4,10 +4,10 @@ ghost use Rattle.std.specs.Prelude.{◌≡◌, ◌++◌, flat_map};
 ghost use Rattle.rh_explained.specs.Help.{command_help, refusal_line, word_line};
 
 use crate::command_kind::CommandKind;
-use crate::sentences::{refusal_name, why};
+use crate::sentences::why;
 use crate::word_kind::WordKind;
 use rh_defs::Refusal;
-use rh_lines::Pen;
+use rh_lines::{Pen, refusal_name};
 
 /// Writes the forms of a kind of command, what it does, what its words are, and why it may be refused.
 pub fn put_command_help<P: Pen>(kind: CommandKind, pen: &mut P)

@@ -2,7 +2,6 @@
 
 ghost use Rattle.std.specs.Prelude.{◌≡◌};
 ghost use Rattle.rh_explained.specs.Sentences.{help_for as help_text, why as why_text};
-ghost use Rattle.rh_defs.specs.Text.{refusal_name as name_text};
 
 use rh_defs::Refusal;
 
@@ -67,37 +66,5 @@ pub fn help_for(refusal: Refusal) -> &'static [u8]
         Refusal::TooManyAreas => b"  remove an area first\n",
         Refusal::NoNumbers => b"",
         Refusal::TooBig => b"  make an area that may have more by make MAX\n",
-    }
-}
-
-/// The name of a refusal.
-pub fn refusal_name(refusal: Refusal) -> &'static [u8]
-    ensures { result.now ≡ name_text refusal }
-{
-    match refusal {
-        Refusal::NameInUse => b"NameInUse",
-        Refusal::NoName => b"NoName",
-        Refusal::TooManyTasks => b"TooManyTasks",
-        Refusal::NoHandles => b"NoHandles",
-        Refusal::NoFile => b"NoFile",
-        Refusal::NoBlock => b"NoBlock",
-        Refusal::AnchorInUse => b"AnchorInUse",
-        Refusal::NotABlock => b"NotABlock",
-        Refusal::NotYours => b"NotYours",
-        Refusal::Busy => b"Busy",
-        Refusal::NotOpen => b"NotOpen",
-        Refusal::NothingSent => b"NothingSent",
-        Refusal::BadRange => b"BadRange",
-        Refusal::BadSize => b"BadSize",
-        Refusal::ExcessiveShrink => b"ExcessiveShrink",
-        Refusal::NoTask => b"NoTask",
-        Refusal::NoRefs => b"NoRefs",
-        Refusal::QueueFull => b"QueueFull",
-        Refusal::NoBudge => b"NoBudge",
-        Refusal::NoRoom => b"NoRoom",
-        Refusal::NoArea => b"NoArea",
-        Refusal::TooManyAreas => b"TooManyAreas",
-        Refusal::NoNumbers => b"NoNumbers",
-        Refusal::TooBig => b"TooBig",
     }
 }

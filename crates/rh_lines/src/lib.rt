@@ -26,7 +26,9 @@ pub use flagged::Flagged;
 pub use ghost_bytes::GhostBytes;
 pub use parse::{parse_line, read_line};
 pub use pen::Pen;
-pub use print::{add_number, print_fault, print_first_line, put_fault, put_first_line};
+pub use print::{
+    add_number, print_fault, print_first_line, put_fault, put_first_line, refusal_name,
+};
 pub use row::{ROW, Row};
 pub use sink::{Sink, WriteFailed, put};
 pub use source::{ReadFailed, Source};

@@ -268,7 +268,8 @@ fn add_action(action: Action, row: &mut Row)
     }
 }
 
-fn refusal_name(refusal: Refusal) -> &'static [u8]
+/// The name of a refusal.
+pub fn refusal_name(refusal: Refusal) -> &'static [u8]
     ensures value { result.now ≡ refusal_name refusal }
     ensures short { length result.now ≤ 15 }
 {
