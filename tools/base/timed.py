@@ -31,14 +31,24 @@ def checked(crate, texts, flags, kept):
             if os.path.isdir(f"{crate.folder}/{part}"):
                 shutil.copytree(f"{crate.folder}/{part}", f"{room}/{part}")
         for path, text in texts.items():
-            with open(f"{room}/{path}", "w", encoding="utf-8") as it:
-                it.write(text)
+            _put(f"{room}/{path}", text)
         words = crate.words([*flags, "--progress"], keeps=False)
         words = [*kit.guarded(), kit.RATTLE, "check", *words, "--incremental", kept]
         with subprocess.Popen(words, cwd=room, stdin=subprocess.DEVNULL, stdout=subprocess.PIPE,
                               stderr=subprocess.STDOUT, text=True, errors="replace") as running:
             lines, seconds = _read(running)
     return Ran(running.returncode, lines, seconds)
+
+
+def _put(path, text):
+    """Writes a file, or takes it away where there is no text."""
+    if text is None:
+        if os.path.isfile(path):
+            os.remove(path)
+        return
+    os.makedirs(os.path.dirname(path), exist_ok=True)
+    with open(path, "w", encoding="utf-8") as it:
+        it.write(text)
 
 
 def _read(running):
