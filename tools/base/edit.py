@@ -109,7 +109,7 @@ class Function:
 
 
 def _type_of(block):
-    """A trait's type as a check's name for a block has it, with no parameters of the block: of `&Vec<u64>` RefVecU64."""
+    """A type as a check's name for a trait's block has it, without its parameters: of `&Vec<u64>` RefVecU64."""
     return _spelled(it for it in block.ty if it == "&" or it.replace("_", "").lower() in block.words)
 
 

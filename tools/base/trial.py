@@ -55,8 +55,8 @@ class Trial:
 
     def __init__(self, crate, kept, jobs):
         self.crate, self.kept, self.jobs = crate, kept, jobs
-        # The goals that were refused so far.
-        self.seen = set()
+        # The goals that were refused so far; how many checks there were, and the seconds of a processor that they took.
+        self.seen, self.checks, self.spent = set(), 0, 0.0
 
     def check(self, edits, functions=()):
         """Checks the crate with these edits, or only these functions of it."""
@@ -72,6 +72,7 @@ class Trial:
         """What a check with these texts in place of the crate's said; no edit changes the proofs."""
         for jobs in (str(self.jobs), "1"):
             ran = timed.checked(self.crate, {**dict(proofs), **texts}, [*flags, "--jobs", jobs], self.kept)
+            self.checks, self.spent = self.checks + 1, self.spent + ran.spent
             # Where it was killed, that was most likely for memory.
             if ran.returncode >= 0:
                 break
@@ -180,6 +181,7 @@ def tried(crate, jobs):
     lines = [f"{crate.name}/{it}" for it in bad]
     for it in verdicts:
         lines += [f"{crate.name}/{it.edit.name}: {it.text}", *(f"    {line}" for line in it.lines)]
+    lines.append(f"{crate.name}: {trial.checks} check{'s' * (trial.checks != 1)}, {trial.spent:.0f} s of a processor")
     with PRINTING:
         print("\n".join(lines), flush=True)
     failed = [it.partition(":")[0] for it in bad] + [it.edit.name for it in verdicts if not it.is_well]
@@ -266,6 +268,8 @@ def main(top, words):
     counts.update((it, given[it.name, "wrong"]) for it in left)
     for it in (it for it in left if not counts[it]):
         print(f"{it.name}: a library below it is not proved, and no edit was tried")
+    if well := [it for it in left if counts[it] and not counts[it].failed]:
+        tell_dearest(well)
     return summed(list(counts.values()))
 
 
