@@ -4,10 +4,10 @@ use Rattle.rh_defs.proofs.Common.{eqb, refl, sym, ap, subst, ◌∙◌, arith, c
 use Rattle.rh_defs.proofs.Common.{Flex, Slot, flex_weight, weight, slot_length, IsFree, HaveAnchors, with_heap, heap_start, anchor_count, word_same}
 use Rattle.rh_defs.specs.HeapImage.{heap_of}
 use Rattle.rh_defs.specs.Slot.{slot_start}
-use Rattle.rh_defs.specs.SlotImage.{Lie, Hang, SlotWords, SpellsSlot, flex_place, is_block, flex_in, slot_of, heap_place}
+use Rattle.rh_defs.specs.SlotImage.{Lie, Anchored, SlotWords, SpellsSlot, flex_place, is_block, flex_in, slot_of, heap_place}
 use Rattle.rh_defs.proofs.HeapLists.{cond_true, cond_false, ltb_yes}
 use Rattle.rh_defs.proofs.HeapLaws.{heap_of-Spells}
-use Rattle.rh_defs.proofs.SlotLaws.{part_of, in_below, in_above, flex_same, Lie-same, Hang-same, Spells-same}
+use Rattle.rh_defs.proofs.SlotLaws.{part_of, in_below, in_above, flex_same, Lie-same, Anchored-same, Spells-same}
 
 -- ---- the test for a block
 
@@ -58,7 +58,7 @@ is_block-is b p e =
     record { least = le_from _ _ u.0; most = lt_from _ _ u.1; multiple = eq_from _ _ q.1; back = eq_from _ _ r.1 }
 
 -- it holds at a block
-pub is_block-here : (b : List ℕ) (p : ℕ) (f : Flex) (fs : List Flex) → Lie b p (f ∷ fs) → Hang b p (f ∷ fs) → f.anchor < anchor_count → is_block b p ≡ true
+pub is_block-here : (b : List ℕ) (p : ℕ) (f : Flex) (fs : List Flex) → Lie b p (f ∷ fs) → Anchored b p (f ∷ fs) → f.anchor < anchor_count → is_block b p ≡ true
 is_block-here b p f fs l h small =
     let head = l.0 in
     is_block-yes b p (record { least = omega arith; most = omega arith; multiple = omega arith; back = ap (word b) (omega arith) ∙ h.0 })
@@ -72,7 +72,7 @@ leads_behind : (b : List ℕ) (k p : ℕ) (f : Flex) (fs : List Flex) → f.anch
 leads_behind b k p f fs ne (leads_nowhere u) = leads_nowhere (ne, u)
 leads_behind b k p f fs ne (leads_to q e l m) = leads_to q e (omega arith) (omega arith)
 
-pub leads : (b : List ℕ) (k p : ℕ) (fs : List Flex) → Hang b p fs → Leads b k p fs
+pub leads : (b : List ℕ) (k p : ℕ) (fs : List Flex) → Anchored b p fs → Leads b k p fs
 leads b k p [] h = leads_nowhere tt
 leads b k p (f ∷ fs) h = elim (cases_eq f.anchor k) [
   | inl e ↦ leads_to p (ap (λ i. word b (4 * i)) (sym e) ∙ h.0) (omega arith) (omega arith)
@@ -88,14 +88,14 @@ is_block-top b s p w e = not_true (is_block b p) (λ z. none (is_block-is b p z)
         let k = (word b p - slot_start) / 4 in
         let small : k < anchor_count = let m = i.most in omega arith in
         let at : word b (4 * k) ≡ slot_start + p + 8 = ap (word b) (let m = i.multiple in let l = i.least in omega arith) ∙ i.back in
-        elim (leads b k (flex_place s) s.blocks w.hang) [
+        elim (leads b k (flex_place s) s.blocks w.anchored) [
           | leads_nowhere u ↦ let z = w.none k small u in omega arith
           | leads_to q f l m ↦ omega arith
         ]
 
 -- ---- the bytes spell at most one slot
 
-pub flex_in-Lie : (k : ℕ) (b : List ℕ) (p t : ℕ) (fs : List Flex) → Lie b p fs → Hang b p fs → HaveAnchors fs → p + total weight fs ≡ t
+pub flex_in-Lie : (k : ℕ) (b : List ℕ) (p t : ℕ) (fs : List Flex) → Lie b p fs → Anchored b p fs → HaveAnchors fs → p + total weight fs ≡ t
     → is_block b t ≡ false → total weight fs ≤ k → flex_in k b p ≡ fs
 unfolding flex_in
 flex_in-Lie zero b p t [] l h a e n m = refl
@@ -123,7 +123,7 @@ slot_of-SlotWords on b s w =
     let fits = w.within in
     let d : flex_in (length b) b (heap_place + (heap_of b heap_place).end) ≡ s.blocks =
     ap (λ (i : Heap). flex_in (length b) b (heap_place + i.end)) h
-    ∙ flex_in-Lie (length b) b (flex_place s) (slot_length s) s.blocks w.lie w.hang w.anchors refl (is_block-top b s (slot_length s) w refl)
+    ∙ flex_in-Lie (length b) b (flex_place s) (slot_length s) s.blocks w.lie w.anchored w.anchors refl (is_block-top b s (slot_length s) w refl)
     (omega arith) in
     ap (λ (i : Heap). let r : Slot = record { heap = i; blocks = flex_in (length b) b (heap_place + (heap_of b heap_place).end); budging = on } in r) h
     ∙ ap (λ (l : List Flex). let r : Slot = record { heap = s.heap; blocks = l; budging = on } in r) d
@@ -134,7 +134,7 @@ slot_of-SpellsSlot b s k = slot_of-SlotWords s.budging b s k.words
 pub SpellsSlot-budging : (on : Bool) (b : List ℕ) (s : Slot) → SpellsSlot b s → SpellsSlot b (with_budging on s)
 SpellsSlot-budging on b s k =
     let w = k.words in
-    record { words = record { heap = w.heap; within = w.within; lie = w.lie; hang = w.hang; none = w.none; anchors = w.anchors }; pages = k.pages }
+    record { words = record { heap = w.heap; within = w.within; lie = w.lie; anchored = w.anchored; none = w.none; anchors = w.anchors }; pages = k.pages }
 
 -- ---- bytes that stay
 
@@ -144,7 +144,7 @@ SlotWords-kept b c s o l w = record {
   heap = Spells-same b c heap_place s.heap (part_of o (omega arith) (omega arith)) (omega arith) w.heap;
   within = l;
   lie = Lie-same b c (flex_place s) (slot_length s) s.blocks (part_of o (omega arith) (omega arith)) (omega arith) w.lie;
-  hang = Hang-same b c (flex_place s) s.blocks w.anchors (part_of o (omega arith) (omega arith)) w.hang;
+  anchored = Anchored-same b c (flex_place s) s.blocks w.anchors (part_of o (omega arith) (omega arith)) w.anchored;
   none = λ k u v. word_same b c (4 * k) (part_of o (omega arith) (omega arith)) ∙ w.none k u v;
   anchors = w.anchors;
 }
@@ -161,7 +161,7 @@ SlotWords-with_heap b c s h w o k e =
       within = omega arith;
       lie = subst (λ p. Lie c p s.blocks) (ap (λ n. heap_place + n) (sym e))
           (Lie-same b c (flex_place s) (slot_length s) s.blocks (in_above o (omega arith)) (omega arith) w.lie);
-      hang = subst (λ p. Hang c p s.blocks) (ap (λ n. heap_place + n) (sym e)) (Hang-same b c (flex_place s) s.blocks w.anchors anchors w.hang);
+      anchored = subst (λ p. Anchored c p s.blocks) (ap (λ n. heap_place + n) (sym e)) (Anchored-same b c (flex_place s) s.blocks w.anchors anchors w.anchored);
       none = λ j u v. word_same b c (4 * j) (part_of anchors (omega arith) (omega arith)) ∙ w.none j u v;
       anchors = w.anchors;
     }

@@ -4,7 +4,7 @@ use Rattle.rh_defs.proofs.Common.{cases_eq, ◌==◌, Some, None, part, SameIn, 
 use Rattle.rh_defs.proofs.Common.{flex_weight, flex_start, IsFree, HaveAnchors, anchor_count, word_same, part_same}
 use Rattle.rh_defs.specs.Inner.NonePassing.{NonePass}
 use Rattle.rh_defs.specs.Slot.{block_of}
-use Rattle.rh_defs.specs.SlotImage.{Lie, Hang, heap_place}
+use Rattle.rh_defs.specs.SlotImage.{Lie, Anchored, heap_place}
 use Rattle.rh_defs.proofs.BytesLaws.{words_same, parts_same, SameOutside-wider, SameOutside-both}
 use Rattle.rh_defs.proofs.HeapLists.{first_at-none, first_at-found, eqb_same, eqb_apart, HasRoom-from_tidy}
 use Rattle.rh_defs.proofs.HeapStretch.{Stand-kept}
@@ -97,22 +97,22 @@ none_weigh [] e = refl
 none_weigh (f ∷ fs) e = absurd (omega arith)
 
 -- ---- their anchor words
-pub Hang-split : (b : List ℕ) (p : ℕ) (xs ys : List Flex) → Hang b p (xs ++ ys) → Hang b p xs × Hang b (p + total weight xs) ys
-Hang-split b p [] ys h = (tt, let e : p ≡ p + 0 = omega arith in subst (λ q. Hang b q ys) e h)
-Hang-split b p (f ∷ xs) ys h =
-    let r = Hang-split b (p + weight f) xs ys h.1 in
+pub Anchored-split : (b : List ℕ) (p : ℕ) (xs ys : List Flex) → Anchored b p (xs ++ ys) → Anchored b p xs × Anchored b (p + total weight xs) ys
+Anchored-split b p [] ys h = (tt, let e : p ≡ p + 0 = omega arith in subst (λ q. Anchored b q ys) e h)
+Anchored-split b p (f ∷ xs) ys h =
+    let r = Anchored-split b (p + weight f) xs ys h.1 in
     let e : p + weight f + total weight xs ≡ p + (weight f + total weight xs) = omega arith in
-    ((h.0, r.0), subst (λ q. Hang b q ys) e r.1)
+    ((h.0, r.0), subst (λ q. Anchored b q ys) e r.1)
 
-pub Hang-join : (b : List ℕ) (p q : ℕ) (xs ys : List Flex) → q ≡ p + total weight xs → Hang b p xs → Hang b q ys → Hang b p (xs ++ ys)
-Hang-join b p q [] ys e l m = let z : q ≡ p = omega arith in subst (λ i. Hang b i ys) z m
-Hang-join b p q (f ∷ xs) ys e l m = (l.0, Hang-join b (p + weight f) q xs ys (omega arith) l.1 m)
+pub Anchored-join : (b : List ℕ) (p q : ℕ) (xs ys : List Flex) → q ≡ p + total weight xs → Anchored b p xs → Anchored b q ys → Anchored b p (xs ++ ys)
+Anchored-join b p q [] ys e l m = let z : q ≡ p = omega arith in subst (λ i. Anchored b i ys) z m
+Anchored-join b p q (f ∷ xs) ys e l m = (l.0, Anchored-join b (p + weight f) q xs ys (omega arith) l.1 m)
 
-pub Hang-same : (b c : List ℕ) (p : ℕ) (fs : List Flex) → HaveAnchors fs → SameIn b c 0 heap_place → Hang b p fs → Hang c p fs
-Hang-same b c p [] a s h = tt
-Hang-same b c p (f ∷ fs) a s h =
+pub Anchored-same : (b c : List ℕ) (p : ℕ) (fs : List Flex) → HaveAnchors fs → SameIn b c 0 heap_place → Anchored b p fs → Anchored c p fs
+Anchored-same b c p [] a s h = tt
+Anchored-same b c p (f ∷ fs) a s h =
     let small = a.0 in
-    (word_same b c (4 * f.anchor) (part_of s (omega arith) (omega arith)) ∙ h.0, Hang-same b c (p + weight f) fs a.2 s h.1)
+    (word_same b c (4 * f.anchor) (part_of s (omega arith) (omega arith)) ∙ h.0, Anchored-same b c (p + weight f) fs a.2 s h.1)
 
 -- ---- anchors
 pub IsFree-split : (k : ℕ) (xs ys : List Flex) → IsFree k (xs ++ ys) → IsFree k xs × IsFree k ys

@@ -24,16 +24,16 @@ Lie b p (f ∷ blocks) =
     (word b p ≡ slot_start + 4 * f.anchor) × (word b (p + 4) ≡ length f.bytes) × (part b (p + 8) (length f.bytes) ≡ f.bytes) × Lie b (p + weight f) blocks
 
 -- The anchor words of blocks that lie from place p on hold the blocks' addresses.
-abbrev pub Hang : List ℕ → ℕ → List Flex → Type 0
-Hang b p [] = Unit {0}
-Hang b p (f ∷ blocks) = (word b (4 * f.anchor) ≡ slot_start + p + 8) × Hang b (p + weight f) blocks
+abbrev pub Anchored : List ℕ → ℕ → List Flex → Type 0
+Anchored b p [] = Unit {0}
+Anchored b p (f ∷ blocks) = (word b (4 * f.anchor) ≡ slot_start + p + 8) × Anchored b (p + weight f) blocks
 
 -- the bytes hold the slot's anchor words, C heap and blocks
 pub record SlotWords (b : List ℕ) (s : Slot) : Type 0 where
   pub heap : Spells b heap_place s.heap
   pub within : slot_length s ≤ length b
   pub lie : Lie b (flex_place s) s.blocks
-  pub hang : Hang b (flex_place s) s.blocks
+  pub anchored : Anchored b (flex_place s) s.blocks
   pub none : (k : ℕ) → k < anchor_count → IsFree k s.blocks → word b (4 * k) ≡ 0
   pub anchors : HaveAnchors s.blocks
 

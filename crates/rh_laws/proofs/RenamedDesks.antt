@@ -85,9 +85,9 @@ module _ (f : ℕ → ℕ) where
       go true = refl
       go false = refl
 
-  pub delivered-renamed : (p : Post) (d : Desk) → with_delivered p (renamed f d) ≡ renamed f (with_delivered p d)
+  pub with_delivered-renamed : (p : Post) (d : Desk) → with_delivered p (renamed f d) ≡ renamed f (with_delivered p d)
   unfolding with_delivered
-  delivered-renamed p d = ap (λ (o : Option Scrap). record (renamed f d) { post = p; scrap = o }) (kept-renamed p d.scrap)
+  with_delivered-renamed p d = ap (λ (o : Option Scrap). record (renamed f d) { post = p; scrap = o }) (kept-renamed p d.scrap)
 
   pub send_letter-renamed : (l : Letter) (d : Desk) → Follows (By (renamed f)) (send_letter l d) (send_letter l (renamed f d))
   unfolding send_letter

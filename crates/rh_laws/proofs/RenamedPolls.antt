@@ -29,7 +29,7 @@ use Rattle.rh_laws.proofs.RenamedSlots.{renamed_here, renamed_given, some-map, a
 use Rattle.rh_laws.proofs.RenamedSlots.{buffer_at-renamed, written_in-renamed, first_bytes-renamed, slot_block-renamed, slot_put-renamed}
 use Rattle.rh_laws.proofs.RenamedSlots.{slot_release-renamed, slot_alloc-renamed, slot_extend-renamed, slot_claim-renamed}
 use Rattle.rh_laws.proofs.RenamedDesks.{renamed_with, result-by, free-renamed, where-free, named-renamed, task_at-renamed, with_task-renamed}
-use Rattle.rh_laws.proofs.RenamedDesks.{with_slot-renamed, delivered-renamed, send_letter-renamed}
+use Rattle.rh_laws.proofs.RenamedDesks.{with_slot-renamed, with_delivered-renamed, send_letter-renamed}
 
 -- a transmit of a part from a place, of a source with these bytes
 abbrev transmit_of : Desk → Task → Transmit → Part → ℕ → List ℕ → Granted Handled
@@ -322,30 +322,30 @@ module _ (f : ℕ → ℕ) (zero-is : f 0 ≡ 0) where
 
   -- ---- one message
 
-  came-renamed : (d : Desk) (t : Task) (m : Parcel) (body : Body) → Same (delivered d t m body) (delivered (renamed f d) (renamed_task f t) m body)
+  delivered-renamed : (d : Desk) (t : Task) (m : Parcel) (body : Body) → Same (delivered d t m body) (delivered (renamed f d) (renamed_task f t) m body)
   unfolding delivered
-  came-renamed d t m (DataSave file) = perform_take-renamed d t _
-  came-renamed d t m (DataSaveAck file) = perform_send-renamed d t _
-  came-renamed d t m (DataLoad file) = perform_take-renamed d t _
-  came-renamed d t m (DataLoadAck file) = perform_send-renamed d t _
-  came-renamed d t m (RamFetch buffer amount) =
+  delivered-renamed d t m (DataSave file) = perform_take-renamed d t _
+  delivered-renamed d t m (DataSaveAck file) = perform_send-renamed d t _
+  delivered-renamed d t m (DataLoad file) = perform_take-renamed d t _
+  delivered-renamed d t m (DataLoadAck file) = perform_send-renamed d t _
+  delivered-renamed d t m (RamFetch buffer amount) =
       chosen-both (By (renamed_with f)) (answers_none t.manner) _ _ _ _ refl (perform_send-renamed d t _)
-  came-renamed d t m (RamTransmit buffer n) = perform_take-renamed d t _
+  delivered-renamed d t m (RamTransmit buffer n) = perform_take-renamed d t _
 
-  came_back-renamed : (d : Desk) (t : Task) (m : Parcel) (body : Body) → Same (bounced_to d t m body) (bounced_to (renamed f d) (renamed_task f t) m body)
+  bounced_to-renamed : (d : Desk) (t : Task) (m : Parcel) (body : Body) → Same (bounced_to d t m body) (bounced_to (renamed f d) (renamed_task f t) m body)
   unfolding bounced_to
-  came_back-renamed d t m (DataSave file) = fail_sending-renamed d t _
-  came_back-renamed d t m (DataSaveAck file) = ack_back-renamed d t _
-  came_back-renamed d t m (DataLoad file) = fail_sending-renamed d t _
-  came_back-renamed d t m (DataLoadAck file) = refl
-  came_back-renamed d t m (RamFetch buffer amount) = perform_take-renamed d t _
-  came_back-renamed d t m (RamTransmit buffer n) = fail_sending-renamed d t _
+  bounced_to-renamed d t m (DataSave file) = fail_sending-renamed d t _
+  bounced_to-renamed d t m (DataSaveAck file) = ack_back-renamed d t _
+  bounced_to-renamed d t m (DataLoad file) = fail_sending-renamed d t _
+  bounced_to-renamed d t m (DataLoadAck file) = refl
+  bounced_to-renamed d t m (RamFetch buffer amount) = perform_take-renamed d t _
+  bounced_to-renamed d t m (RamTransmit buffer n) = fail_sending-renamed d t _
 
   handled-renamed : (d : Desk) (t : Task) (m : Parcel) (code : EventCode) → Same (handled d t m code) (handled (renamed f d) (renamed_task f t) m code)
   unfolding handled
-  handled-renamed d t m User = came-renamed d t m m.message.body
-  handled-renamed d t m Recorded = came-renamed d t m m.message.body
-  handled-renamed d t m Acknowledge = came_back-renamed d t m m.message.body
+  handled-renamed d t m User = delivered-renamed d t m m.message.body
+  handled-renamed d t m Recorded = delivered-renamed d t m m.message.body
+  handled-renamed d t m Acknowledge = bounced_to-renamed d t m m.message.body
 
   poll_taken-renamed : (d : Desk) (t : Task) (o : Option Parcel) → By (renamed_with f) (poll_taken d t o) (poll_taken (renamed f d) (renamed_task f t) o)
   unfolding poll_taken
@@ -357,6 +357,6 @@ module _ (f : ℕ → ℕ) (zero-is : f 0 ≡ 0) where
   poll-renamed d name =
       follows-by _ _ (named-renamed f name d) λ t.
       Follows.both (
-      ap (λ (e : Desk). poll_taken e (renamed_task f t) (post_poll t.handle d.post).1) (delivered-renamed f (post_poll t.handle d.post).0 d)
+      ap (λ (e : Desk). poll_taken e (renamed_task f t) (post_poll t.handle d.post).1) (with_delivered-renamed f (post_poll t.handle d.post).0 d)
       ∙ poll_taken-renamed (with_delivered (post_poll t.handle d.post).0 d) t (post_poll t.handle d.post).1
       )

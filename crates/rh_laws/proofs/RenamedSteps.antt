@@ -17,7 +17,7 @@ use Rattle.rh_defs.proofs.Follows.{follows-same, chosen-both}
 use Rattle.rh_laws.specs.Renaming.{renamed_slot, renamed_task, renamed_scrap, renamed}
 use Rattle.rh_laws.proofs.RenamedParts.{By, follows-by, follows-test, filter-map}
 use Rattle.rh_laws.proofs.RenamedDesks.{renamed_with, any-map, free-renamed, named-renamed}
-use Rattle.rh_laws.proofs.RenamedDesks.{with_slot-renamed, delivered-renamed}
+use Rattle.rh_laws.proofs.RenamedDesks.{with_slot-renamed, with_delivered-renamed}
 
 -- a file with its bytes renamed
 abbrev pub renamed_file : (ℕ → ℕ) → List ℕ × List ℕ → List ℕ × List ℕ
@@ -61,7 +61,7 @@ module _ (f : ℕ → ℕ) where
   kill-renamed d name =
       follows-by _ _ (named-renamed f name d) λ t.
       Follows.both (
-      ap (λ (e : Desk). (record e { tasks = filter (others t) (map (renamed_task f) d.tasks) }, reply.Done)) (delivered-renamed f
+      ap (λ (e : Desk). (record e { tasks = filter (others t) (map (renamed_task f) d.tasks) }, reply.Done)) (with_delivered-renamed f
       (post_death t.handle d.post) d)
       ∙ ap (λ (ts : List Task). (record (renamed f (with_delivered (post_death t.handle d.post) d)) { tasks = ts }, reply.Done)) (filter-map
       (others t) (renamed_task f) (λ u. refl) d.tasks)

@@ -112,17 +112,17 @@ module _ {may : MayShow} where
   letter-own l d g = granted-as (λ e (w : Sent may l d e). w.own) (letter-sent l d g)
 
   -- a post that messages went out of
-  delivered-own : (p : Post) (d : Desk) → ((file : Scrap) → Left (IsFor may file) (back-for may file) d.post p) → HaveOwn may d →
+  with_delivered-own : (p : Post) (d : Desk) → ((file : Scrap) → Left (IsFor may file) (back-for may file) d.post p) → HaveOwn may d →
       HaveOwn may (with_delivered p d)
   unfolding with_delivered
-  delivered-own p d left g = record {
+  with_delivered-own p d left g = record {
     all = g.all;
     file = λ file q. (left file).mail (g.file file (was-there p file d.scrap q));
     given = λ file q. subst (λ n. file.load < n) (sym (left file).next) (g.given file (was-there p file d.scrap q));
   }
 
   pub polled-own : (h : ℕ) (d : Desk) → HaveOwn may d → HaveOwn may (with_delivered (post_poll h d.post).0 d)
-  polled-own h d g = delivered-own _ d (λ file. (poll-taken (IsFor may file) (back-for may file) h d.post).left) g
+  polled-own h d g = with_delivered-own _ d (λ file. (poll-taken (IsFor may file) (back-for may file) h d.post).left) g
 
   -- the message that a poll takes, if it is the DataLoad of the scrap file
   pub taken-for : (h : ℕ) (d : Desk) → HaveOwn may d → (m : Parcel) → (post_poll h d.post).1 ≡ Some m → (m.code ≡ Acknowledge → ⊥) → (file : Scrap) →
@@ -135,7 +135,7 @@ module _ {may : MayShow} where
       subst (λ j. AreOnly (may j) file.bytes) mine.own (mine.agrees ne (sym load))
 
   pub death-own : (h : ℕ) (d : Desk) → HaveOwn may d → HaveOwn may (with_delivered (post_death h d.post) d)
-  death-own h d g = delivered-own _ d (λ file. death-left (IsFor may file) (back-for may file) h d.post) g
+  death-own h d g = with_delivered-own _ d (λ file. death-left (IsFor may file) (back-for may file) h d.post) g
 
 -- ---- what is done with a message
 
@@ -319,30 +319,30 @@ module _ (may : MayShow) (t : Task) (own : HasOwn may t) where
     Filed m = (file : Scrap) → d.scrap ≡ Some file → file.load ≡ m.message.my_ref → AreOnly (may h) file.bytes
 
     module _ (m : Parcel) (offered : Offered) (refs : HasRefs d) where
-      came-own : (b : Body) → Filed m → Leaves may (delivered d t m b)
+      delivered-own : (b : Body) → Filed m → Leaves may (delivered d t m b)
       unfolding delivered
-      came-own (body.DataSave file) filed = perform_take-own _ (save-does (Takes d) t.taking _ _ _ tt)
-      came-own (body.DataSaveAck file) filed =
+      delivered-own (body.DataSave file) filed = perform_take-own _ (save-does (Takes d) t.taking _ _ _ tt)
+      delivered-own (body.DataSaveAck file) filed =
           perform_send-own d g _ (open-does (Sends d) t.sending (sender.file_for m.message.from m.message.my_ref) _ (λ x has p.
           let both = and_left _ (x.id == x.last) p in
           (offered x has, (is_equal _ _ (and_left (m.message.from == x.recipient) _ both), refs))))
-      came-own (body.DataLoad file) filed = perform_take-own _ (load-does (Takes d) t.taking _ _ _ (λ q has p. filed))
-      came-own (body.DataLoadAck file) filed = perform_send-own d g _ (open-does (Sends d) t.sending _ _ (λ x has p. (offered x has, tt)))
-      came-own (body.RamFetch buffer amount) filed =
+      delivered-own (body.DataLoad file) filed = perform_take-own _ (load-does (Takes d) t.taking _ _ _ (λ q has p. filed))
+      delivered-own (body.DataLoadAck file) filed = perform_send-own d g _ (open-does (Sends d) t.sending _ _ (λ x has p. (offered x has, tt)))
+      delivered-own (body.RamFetch buffer amount) filed =
           chosen (Leaves may) _ _ _ (ignored-own d g) (perform_send-own d g _ (open-does (Sends d) t.sending _ _ (λ x has p. (offered x has, tt))))
-      came-own (body.RamTransmit buffer n) filed =
+      delivered-own (body.RamTransmit buffer n) filed =
           perform_take-own _ (transmit-does (Takes d) t.taking _ _ _ _ _ _ (λ x has. tt) (λ x e has. tt))
 
-      came_back-own : (b : Body) → Leaves may (bounced_to d t m b)
+      bounced_to-own : (b : Body) → Leaves may (bounced_to d t m b)
       unfolding bounced_to
-      came_back-own (body.DataSaveAck file) = ack_back-own d g _
-      came_back-own (body.DataLoadAck file) = ignored-own d g
-      came_back-own (body.RamFetch buffer amount) =
+      bounced_to-own (body.DataSaveAck file) = ack_back-own d g _
+      bounced_to-own (body.DataLoadAck file) = ignored-own d g
+      bounced_to-own (body.RamFetch buffer amount) =
           perform_take-own _ (bounce-does (Takes d) t.taking _ (λ x has. tt) (λ x e has. tt))
-      came_back-own b = fail_sending-own d g _
+      bounced_to-own b = fail_sending-own d g _
 
       pub handled-own : (c : EventCode) → ((c ≡ Acknowledge → ⊥) → Filed m) → HaveOwn may (handled d t m c).0
       unfolding handled
-      handled-own User filed = (came-own m.message.body (filed (λ z. cc))).desk
-      handled-own Recorded filed = (came-own m.message.body (filed (λ z. cc))).desk
-      handled-own Acknowledge filed = (came_back-own m.message.body).desk
+      handled-own User filed = (delivered-own m.message.body (filed (λ z. cc))).desk
+      handled-own Recorded filed = (delivered-own m.message.body (filed (λ z. cc))).desk
+      handled-own Acknowledge filed = (bounced_to-own m.message.body).desk

@@ -14,7 +14,7 @@ use Rattle.rh_defs.specs.Letters.{transmit_letter}
 use Rattle.rh_defs.specs.Sender as sender
 use Rattle.rh_defs.specs.Receiver as receiver
 use Rattle.rh_safety.proofs.Acts as acts
-use Rattle.rh_safety.proofs.Acts.{Act, ForAsking, ForOpen, abandons, asks, came-back, claims, fails, finishes, gives_up, handled-acts, is_back, is_file}
+use Rattle.rh_safety.proofs.Acts.{Act, ForAsking, ForOpen, abandons, asks, back-is, claims, fails, finishes, gives_up, handled-acts, is_back, is_file}
 use Rattle.rh_safety.proofs.Acts.{is_for_active, is_for_asking, is_for_open, loads, loads_only, not-back, part_of, poured, saves, sends, skips, takes_full}
 use Rattle.rh_safety.proofs.Acts.{takes_last, takes_some, transmit_of}
 use Rattle.rh_safety.proofs.Basics.{not_true}
@@ -133,7 +133,7 @@ module _ (Q : sight.Desk → Type 0) {o : Offers} {e : Edits} (d : Desk) (t : Ta
     tells : back ≡ false → (m.message.from ≡ peer_of w) × Tells w (D.buf k) (D.file k) D.scrap (M b)
 
   aimed : (back : Bool) → is_back m.code ≡ back → (b : Body) (w : Want) → For D (M b) k w → Aimed back b w
-  aimed true q b w (answer u from answers tells) = absurd (u (came-back m.code q))
+  aimed true q b w (answer u from answers tells) = absurd (u (back-is m.code q))
   aimed true q b w (own_back c r a) = record { sorts = asks-fits w _ _ (letter_of m b) a; refs = r; tells = λ e. unlike (sym e) }
   aimed false q b w (answer u from answers tells) = record { sorts = tells-fits w _ _ _ (M b) tells; refs = answers; tells = λ e. (from, tells) }
   aimed false q b w (own_back c r a) = absurd (not-back m.code q c)
@@ -501,7 +501,7 @@ module _ (Q : sight.Desk → Type 0) {o : Offers} {e : Edits} (d : Desk) (t : Ta
       (active-own true code b bf f it.passes (Fetching f) it.has refl) (active-none true code b bf f it.passes)
       (λ w e. (
         anew-one b bf n (file D.next_ref f.sender) refl refl refl refl w e,
-        Goes.asks_file f q refl has refl refl (came-back m.code code) (active-last true b f it.passes).0,
+        Goes.asks_file f q refl has refl refl (back-is m.code code) (active-last true b f it.passes).0,
       ))
       (sends-one b bf D.scrap n (record {
         from = refl;

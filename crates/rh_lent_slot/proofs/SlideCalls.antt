@@ -14,8 +14,8 @@ use Rattle.rh_defs.specs.SlotImage.{SlotWords, flex_place}
 use Rattle.rh_defs.specs.declared.refusal.Refusal.{Refusal}
 use Rattle.rh_defs.specs.declared.refusal.Refusal.TheVariants.{NoBlock}
 use Rattle.rh_defs.proofs.HeapLists.{cond_true, eqb_same, IsCut, first_at-cuts}
-use Rattle.rh_defs.proofs.SlotLaws.{Hang-split, HaveAnchors-cut}
-use Rattle.rh_defs.specs.SlotImage.{Hang}
+use Rattle.rh_defs.proofs.SlotLaws.{Anchored-split, HaveAnchors-cut}
+use Rattle.rh_defs.specs.SlotImage.{Anchored}
 use Rattle.rh_lent_slot.specs.SlotSlides.{slides_after}
 use Rattle.rh_lent_slot.specs.Inner.NotedWords.{NotesFirst, behind_cut, blocks_above, slides_noted}
 use Rattle.rh_lent_slot.specs.declared.slides.NotedWord.{NotedWord}
@@ -151,8 +151,8 @@ module _ (b c : List ℕ) (s t : Slot) (w : SlotWords b s) (x : SlotWords c t) (
       let old = is ∙ ap (λ ys. cut.before ++ cut.here ∷ ys) z in
       let new = now ∙ ap (λ ys. cut.before ++ ys) z in
       let l = (HaveAnchors-cut cut.before cut.here (g ∷ zs) (subst HaveAnchors old w.anchors)).above.0 in
-      let h = (Hang-split b (flex_place s) cut.before (cut.here ∷ g ∷ zs) (subst (Hang b (flex_place s)) old w.hang)).1.1.0 in
-      let i = (Hang-split c (flex_place t) cut.before (g ∷ zs) (subst (Hang c (flex_place t)) new x.hang)).1.0 in
+      let h = (Anchored-split b (flex_place s) cut.before (cut.here ∷ g ∷ zs) (subst (Anchored b (flex_place s)) old w.anchored)).1.1.0 in
+      let i = (Anchored-split c (flex_place t) cut.before (g ∷ zs) (subst (Anchored c (flex_place t)) new x.anchored)).1.0 in
       (l, (λ q. absurd (omega (arith, h, q))), (λ q. absurd (omega (arith, i, q))), (λ q. absurd (omega (arith, h, i, q, place)))))
     where
       no_more : (xs : List Flex) → xs ++ [] ≡ xs
@@ -169,8 +169,8 @@ module _ (b c : List ℕ) (s t : Slot) (w : SlotWords b s) (x : SlotWords c t) (
       let old = is ∙ ap (λ ys. cut.before ++ cut.here ∷ ys) z in
       let new = now ∙ ap (λ ys. cut.before ++ f ∷ ys) z in
       let l = (HaveAnchors-cut cut.before cut.here (g ∷ zs) (subst HaveAnchors old w.anchors)).above.0 in
-      let h = (Hang-split b (flex_place s) cut.before (cut.here ∷ g ∷ zs) (subst (Hang b (flex_place s)) old w.hang)).1.1.0 in
-      let i = (Hang-split c (flex_place t) cut.before (f ∷ g ∷ zs) (subst (Hang c (flex_place t)) new x.hang)).1.1.0 in (
+      let h = (Anchored-split b (flex_place s) cut.before (cut.here ∷ g ∷ zs) (subst (Anchored b (flex_place s)) old w.anchored)).1.1.0 in
+      let i = (Anchored-split c (flex_place t) cut.before (f ∷ g ∷ zs) (subst (Anchored c (flex_place t)) new x.anchored)).1.1.0 in (
         l,
         (λ q. absurd (omega (arith, h, q))),
         (λ q. absurd (omega (arith, i, q))),
@@ -187,8 +187,8 @@ module _ (b c : List ℕ) (s t : Slot) (w : SlotWords b s) (x : SlotWords c t) (
       (λ z. none_at_all z now)
       (λ g zs z.
       let l = (subst HaveAnchors z w.anchors).0 in
-      let h = (subst (Hang b (flex_place s)) z w.hang).0 in
-      let i = (subst (Hang c (flex_place t)) (sym now ∙ z) x.hang).0 in (
+      let h = (subst (Anchored b (flex_place s)) z w.anchored).0 in
+      let i = (subst (Anchored c (flex_place t)) (sym now ∙ z) x.anchored).0 in (
         l,
         (λ q. absurd (omega (arith, h, q))),
         (λ q. absurd (omega (arith, i, q))),

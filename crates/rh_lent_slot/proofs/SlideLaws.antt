@@ -7,9 +7,9 @@ use Rattle.std.proofs.lemmas.Bool.{cases_eq}
 use Rattle.rh_defs.specs.Bytes.{word}
 use Rattle.rh_defs.specs.Pieces.{total}
 use Rattle.rh_defs.specs.Slot.{Flex, Slot, weight, IsFree, anchor_count}
-use Rattle.rh_defs.specs.SlotImage.{Hang, SlotWords, flex_place}
+use Rattle.rh_defs.specs.SlotImage.{Anchored, SlotWords, flex_place}
 use Rattle.rh_defs.proofs.HeapLists.{cond_true, cond_false, eqb_same, eqb_apart}
-use Rattle.rh_defs.proofs.SlotLaws.{Hang-split, IsFree-join}
+use Rattle.rh_defs.proofs.SlotLaws.{Anchored-split, IsFree-join}
 use Rattle.rh_lent_slot.specs.SlotSlides.{has_slid, any_slid, slides_after}
 use Rattle.rh_lent_slot.specs.Inner.NotedWords.{slides_noted}
 use Rattle.rh_lent_slot.specs.declared.slides.NotedWord.{NotedWord}
@@ -83,7 +83,7 @@ counts_noted n b c k noted at was l x y rest =
 -- ---- rows of blocks
 
 -- blocks that stand in one place have the same anchor words
-row_same : (b c : List ℕ) (p : ℕ) (xs : List Flex) → Hang b p xs → Hang c p xs → (k : ℕ) → IsFree k xs ⊎ (word b (4 * k) ≡ word c (4 * k))
+row_same : (b c : List ℕ) (p : ℕ) (xs : List Flex) → Anchored b p xs → Anchored c p xs → (k : ℕ) → IsFree k xs ⊎ (word b (4 * k) ≡ word c (4 * k))
 row_same b c p [] h i k = inl tt
 row_same b c p (f ∷ xs) h i k = elim (cases_eq f.anchor k) [
   | inl e ↦ inr (ap (λ j. word b (4 * j)) (sym e) ∙ h.0 ∙ sym i.0 ∙ ap (λ j. word c (4 * j)) e)
@@ -94,31 +94,32 @@ module _ (b c : List ℕ) (s t : Slot) (w : SlotWords b s) (x : SlotWords c t) w
   -- all blocks stand where they stood
   pub all_same : flex_place s ≡ flex_place t → s.blocks ≡ t.blocks → AllRest b c
   all_same p e k l =
-      let i : Hang c (flex_place s) s.blocks = subst (λ q. Hang c q s.blocks) (sym p) (subst (Hang c (flex_place t)) (sym e) x.hang) in
-      elim (row_same b c (flex_place s) s.blocks w.hang i k) [ inl u ↦ rests_new (w.none k l u) | inr q ↦ rests_same q ]
+      let i : Anchored c (flex_place s) s.blocks = subst (λ q. Anchored c q s.blocks) (sym p) (subst (Anchored c (flex_place t)) (sym e) x.anchored) in
+      elim (row_same b c (flex_place s) s.blocks w.anchored i k) [ inl u ↦ rests_new (w.none k l u) | inr q ↦ rests_same q ]
 
   module _ (place : flex_place s ≡ flex_place t) (xs : List Flex) (f : Flex) where
     -- the top block has gone
     pub top_gone : s.blocks ≡ xs ++ f ∷ [] → t.blocks ≡ xs → AllRest b c
     top_gone e g k l =
-        let h = (Hang-split b (flex_place s) xs (f ∷ []) (subst (Hang b (flex_place s)) e w.hang)).0 in
-        let i : Hang c (flex_place s) xs = subst (λ q. Hang c q xs) (sym place) (subst (Hang c (flex_place t)) g x.hang) in
+        let h = (Anchored-split b (flex_place s) xs (f ∷ []) (subst (Anchored b (flex_place s)) e w.anchored)).0 in
+        let i : Anchored c (flex_place s) xs = subst (λ q. Anchored c q xs) (sym place) (subst (Anchored c (flex_place t)) g x.anchored) in
         elim (row_same b c (flex_place s) xs h i k) [ inl u ↦ rests_gone (x.none k l (subst (IsFree k) (sym g) u)) | inr q ↦ rests_same q ]
 
     module _ (ys : List Flex) (e : s.blocks ≡ xs ++ f ∷ ys) where
-      hangs : Hang b (flex_place s) xs × Hang b (flex_place s + total weight xs) (f ∷ ys)
-      hangs = Hang-split b (flex_place s) xs (f ∷ ys) (subst (Hang b (flex_place s)) e w.hang)
+      hangs : Anchored b (flex_place s) xs × Anchored b (flex_place s + total weight xs) (f ∷ ys)
+      hangs = Anchored-split b (flex_place s) xs (f ∷ ys) (subst (Anchored b (flex_place s)) e w.anchored)
 
       -- a block has other bytes, and those above stand where they stood
       module _ (g : Flex) (anchor : g.anchor ≡ f.anchor) (now : t.blocks ≡ xs ++ g ∷ ys) where
-        hangs_now : Hang c (flex_place s) xs × Hang c (flex_place s + total weight xs) (g ∷ ys)
+        hangs_now : Anchored c (flex_place s) xs × Anchored c (flex_place s + total weight xs) (g ∷ ys)
         hangs_now =
-            Hang-split c (flex_place s) xs (g ∷ ys) (subst (λ q. Hang c q (xs ++ g ∷ ys)) (sym place) (subst (Hang c (flex_place t)) now x.hang))
+            Anchored-split c (flex_place s) xs (g ∷ ys)
+            (subst (λ q. Anchored c q (xs ++ g ∷ ys)) (sym place) (subst (Anchored c (flex_place t)) now x.anchored))
 
         above_same : weight f ≡ weight g → (k : ℕ) → IsFree k ys ⊎ (word b (4 * k) ≡ word c (4 * k))
         above_same e =
             row_same b c (flex_place s + total weight xs + weight f) ys hangs.1.1
-            (subst (λ n. Hang c (flex_place s + total weight xs + n) ys) (sym e) hangs_now.1.1)
+            (subst (λ n. Anchored c (flex_place s + total weight xs + n) ys) (sym e) hangs_now.1.1)
 
         changed : ((k : ℕ) → IsFree k ys ⊎ (word b (4 * k) ≡ word c (4 * k))) → AllRest b c
         changed above k l = elim (row_same b c (flex_place s) xs hangs.0 hangs_now.0 k) [

@@ -6,7 +6,7 @@ use Rattle.std.specs.Option.{option_map}
 use Rattle.rh_defs.specs.Bytes.{word}
 use Rattle.rh_defs.specs.Pieces.{Split, total}
 use Rattle.rh_defs.specs.Slot.{Flex, Slot, weight, slot_start, slot_length, flex_weight, HaveAnchors, anchor_count}
-use Rattle.rh_defs.specs.SlotImage.{Lie, Hang, SlotWords, SpellsSlot, flex_place}
+use Rattle.rh_defs.specs.SlotImage.{Lie, Anchored, SlotWords, SpellsSlot, flex_place}
 use Rattle.rh_defs.specs.Desk.{Task}
 use Rattle.rh_defs.proofs.SlotLaws as slots
 use Rattle.rh_safety.specs.Offered.{bytes_of_block}
@@ -27,7 +27,7 @@ weighs n = omega arith
 block-stands : (b : List ℕ) (s : Slot) (k : ℕ) → SlotWords b s → (t : slots.At k s.blocks) → AnchorLeadsTo b k t.here.bytes
 block-stands b s k w t =
     let lie = (slots.Lie-split b (flex_place s) t.before (t.here ∷ t.after) (subst (Lie b (flex_place s)) t.is w.lie)).1 in
-    let hang = (slots.Hang-split b (flex_place s) t.before (t.here ∷ t.after) (subst (Hang b (flex_place s)) t.is w.hang)).1 in
+    let led = (slots.Anchored-split b (flex_place s) t.before (t.here ∷ t.after) (subst (Anchored b (flex_place s)) t.is w.anchored)).1 in
     let cut = slots.HaveAnchors-cut t.before t.here t.after (subst HaveAnchors t.is w.anchors) in
     let small : t.here.anchor < anchor_count = cut.small in
     let anchor : t.here.anchor ≡ k = t.anchor in
@@ -38,7 +38,7 @@ block-stands b s k w t =
     record {
       anchor = omega (arith, small, anchor);
       place = flex_place s + total weight t.before;
-      address = ap (λ j. word b (4 * j)) (sym t.anchor) ∙ hang.0;
+      address = ap (λ j. word b (4 * j)) (sym t.anchor) ∙ led.0;
       owner = lie.0 ∙ ap (λ j. slot_start + 4 * j) t.anchor;
       size = lie.1;
       stands = lie.2;

@@ -38,10 +38,10 @@ is_back _ = false
 pub not-back : (c : EventCode) → is_back c ≡ false → c ≡ Acknowledge → ⊥
 not-back c e z = let y : true ≡ false = subst (λ c. is_back c ≡ false) z e in cc
 
-pub came-back : (c : EventCode) → is_back c ≡ true → c ≡ Acknowledge
-came-back User e = absurd (let z : false ≡ true = e in (cc))
-came-back Recorded e = absurd (let z : false ≡ true = e in (cc))
-came-back Acknowledge e = refl
+pub back-is : (c : EventCode) → is_back c ≡ true → c ≡ Acknowledge
+back-is User e = absurd (let z : false ≡ true = e in (cc))
+back-is Recorded e = absurd (let z : false ≡ true = e in (cc))
+back-is Acknowledge e = refl
 
 -- the file of this ref is there
 abbrev pub is_file : ℕ → Option Scrap → Bool
@@ -400,28 +400,28 @@ module _ (d : Desk) (t : Task) (m : Parcel) where
   unasked file (Some q) e =
       let w = asking_is (λ (q : Asked). q.ack == my) t.taking q e in abandons q outcome.Failed (record { found = e; has = w.0; passes = w.1 }) tt
 
-  came-acts : (b : Body) → Act false b (delivered d t m b)
+  delivered-acts : (b : Body) → Act false b (delivered d t m b)
   unfolding delivered
-  came-acts (body.DataSave file) = claimed file
-  came-acts (body.DataSaveAck file) = filed file _ refl
-  came-acts (body.DataLoad file) = asked file _ refl
-  came-acts (body.DataLoadAck file) = finished file _ refl
-  came-acts (body.RamFetch buffer n) =
+  delivered-acts (body.DataSave file) = claimed file
+  delivered-acts (body.DataSaveAck file) = filed file _ refl
+  delivered-acts (body.DataLoad file) = asked file _ refl
+  delivered-acts (body.DataLoadAck file) = finished file _ refl
+  delivered-acts (body.RamFetch buffer n) =
       either (Act false (body.RamFetch buffer n)) (answers_none t.manner) (ignored d) _
       (λ none. skips (record { open_ = λ x has. rw none refl; active = λ f has. refl; asking = λ q has. refl })) (λ some. fetched buffer n some _ refl)
-  came-acts (body.RamTransmit buffer n) = transmitted buffer n _ refl
+  delivered-acts (body.RamTransmit buffer n) = transmitted buffer n _ refl
 
-  came_back-acts : (b : Body) → Act true b (bounced_to d t m b)
+  bounced_to-acts : (b : Body) → Act true b (bounced_to d t m b)
   unfolding bounced_to
-  came_back-acts (body.DataSave file) = failed (λ f. refl) (λ q. refl) _ refl
-  came_back-acts (body.DataSaveAck file) = unasked file _ refl
-  came_back-acts (body.DataLoad file) = failed (λ f. refl) (λ q. refl) _ refl
-  came_back-acts (body.DataLoadAck file) = skips (record { open_ = λ x has. refl; active = λ f has. refl; asking = λ q has. refl })
-  came_back-acts (body.RamFetch buffer n) = returned buffer n _ refl
-  came_back-acts (body.RamTransmit buffer n) = failed (λ f. refl) (λ q. refl) _ refl
+  bounced_to-acts (body.DataSave file) = failed (λ f. refl) (λ q. refl) _ refl
+  bounced_to-acts (body.DataSaveAck file) = unasked file _ refl
+  bounced_to-acts (body.DataLoad file) = failed (λ f. refl) (λ q. refl) _ refl
+  bounced_to-acts (body.DataLoadAck file) = skips (record { open_ = λ x has. refl; active = λ f has. refl; asking = λ q has. refl })
+  bounced_to-acts (body.RamFetch buffer n) = returned buffer n _ refl
+  bounced_to-acts (body.RamTransmit buffer n) = failed (λ f. refl) (λ q. refl) _ refl
 
   pub handled-acts : (c : EventCode) → Act (is_back c) m.message.body (handled d t m c)
   unfolding handled
-  handled-acts User = came-acts m.message.body
-  handled-acts Recorded = came-acts m.message.body
-  handled-acts Acknowledge = came_back-acts m.message.body
+  handled-acts User = delivered-acts m.message.body
+  handled-acts Recorded = delivered-acts m.message.body
+  handled-acts Acknowledge = bounced_to-acts m.message.body

@@ -15,7 +15,7 @@ use Rattle.rh_safety.proofs.Arrivals.{Matched, began_good, fetched_good, filed_g
 use Rattle.rh_safety.proofs.Arrivals.{shut_good, stopped_good, told_good, unasked_good, untold_good}
 use Rattle.rh_safety.proofs.Basics.{not_true}
 use Rattle.rh_safety.proofs.Endings.{asked_good}
-use Rattle.rh_safety.proofs.Polls.{Called, Taken, Waiter, answered_good, called, failed_good, not_fetch_good, portion_ok, unanswered_good}
+use Rattle.rh_safety.proofs.Polls.{FetchCall, Taken, Waiter, answered_good, called, failed_good, not_fetch_good, portion_ok, unanswered_good}
 use Rattle.rh_safety.proofs.SeenActs.{Reaches, asks_seen, buffer_size, claims_seen, ends_seen, fetch_in, loads_only_seen, loads_seen, recipient_lives}
 use Rattle.rh_safety.proofs.SeenActs.{saves_seen}
 use Rattle.rh_safety.proofs.SeenActs.{sends_seen, source_seen, taken_desk, takes_full_seen, takes_last_seen}
@@ -67,7 +67,7 @@ module _ (d : Desk) (t : Task) (m : Parcel) (is : task_of t.handle d.tasks ≡ S
       off : (view d).file h ≡ false
       off = field_is (λ y. answers_none y.manner) false h d.tasks t is ∙ file
 
-      pub calls : Called o e (view d) h x (fetch_in m buffer n)
+      pub calls : FetchCall o e (view d) h x (fetch_in m buffer n)
       calls = called h (fetch_in m buffer n) tk refl off x (opened x has) passes
 
       pub waits : (view d).live x.recipient ≡ true → Waiter (view d) h x (fetch_in m buffer n)

@@ -9,7 +9,7 @@ use Rattle.rh_safety.proofs.Polls.{Taken, came_taken, back_ready, left_good, unp
 use Rattle.rh_safety.proofs.SeenTaking.{IsTaken, picked_by, poll_taken_is}
 use Rattle.rh_safety.proofs.SeenFiles.{delivered_live}
 use Rattle.rh_safety.proofs.Sends.{Quiet}
-use Rattle.rh_safety.proofs.Acts.{came-back, handled-acts, not-back}
+use Rattle.rh_safety.proofs.Acts.{back-is, handled-acts, not-back}
 use Rattle.rh_safety.proofs.KeptActs.{act_good}
 
 -- what is known of the desk that a message is handled on: it was taken just now, or came back
@@ -24,8 +24,8 @@ pub record Given (o : Offers) (e : Edits) (d : Desk) (t : Task) (m : Parcel) : T
 handled_keeps : {o : Offers} {e : Edits} (d : Desk) (t : Task) (m : Parcel) → Given o e d t m → Good o e (view (handled d t m m.code).0)
 handled_keeps d t m w = act_good d t m w.is (handled-acts d t m m.code) (record {
   came = λ b. w.came (not-back m.code b);
-  good = λ b. w.back (came-back m.code b);
-  quiet = λ b. w.quiet (came-back m.code b);
+  good = λ b. w.back (back-is m.code b);
+  quiet = λ b. w.quiet (back-is m.code b);
 })
 
 module _ {o : Offers} {e : Edits} (d : Desk) (t : Task) (f : Fits d) (is : task_of t.handle d.tasks ≡ Some t)

@@ -296,29 +296,29 @@ module _ (d : Desk) (t : Task) where
   perform_take-marks None = ignored-marks d t
   perform_take-marks (Some a) = take_with-marks a
 
-  came-marks : (m : Parcel) (body : Body) → Marks d (delivered d t m body)
+  delivered-marks : (m : Parcel) (body : Body) → Marks d (delivered d t m body)
   unfolding delivered
-  came-marks m (DataSave file) = perform_take-marks _
-  came-marks m (DataSaveAck file) = perform_send-marks d t _
-  came-marks m (DataLoad file) = perform_take-marks _
-  came-marks m (DataLoadAck file) = perform_send-marks d t _
-  came-marks m (RamFetch buffer amount) = chosen (Marks d) _ _ _ (ignored-marks d t) (perform_send-marks d t _)
-  came-marks m (RamTransmit buffer n) = perform_take-marks _
+  delivered-marks m (DataSave file) = perform_take-marks _
+  delivered-marks m (DataSaveAck file) = perform_send-marks d t _
+  delivered-marks m (DataLoad file) = perform_take-marks _
+  delivered-marks m (DataLoadAck file) = perform_send-marks d t _
+  delivered-marks m (RamFetch buffer amount) = chosen (Marks d) _ _ _ (ignored-marks d t) (perform_send-marks d t _)
+  delivered-marks m (RamTransmit buffer n) = perform_take-marks _
 
-  came_back-marks : (m : Parcel) (body : Body) → Marks d (bounced_to d t m body)
+  bounced_to-marks : (m : Parcel) (body : Body) → Marks d (bounced_to d t m body)
   unfolding bounced_to
-  came_back-marks m (DataSave file) = fail_sending-marks d t _
-  came_back-marks m (DataSaveAck file) = ack_back-marks d t _
-  came_back-marks m (DataLoad file) = fail_sending-marks d t _
-  came_back-marks m (DataLoadAck file) = ignored-marks d t
-  came_back-marks m (RamFetch buffer amount) = perform_take-marks _
-  came_back-marks m (RamTransmit buffer n) = fail_sending-marks d t _
+  bounced_to-marks m (DataSave file) = fail_sending-marks d t _
+  bounced_to-marks m (DataSaveAck file) = ack_back-marks d t _
+  bounced_to-marks m (DataLoad file) = fail_sending-marks d t _
+  bounced_to-marks m (DataLoadAck file) = ignored-marks d t
+  bounced_to-marks m (RamFetch buffer amount) = perform_take-marks _
+  bounced_to-marks m (RamTransmit buffer n) = fail_sending-marks d t _
 
   handled-marks : (m : Parcel) (code : EventCode) → Marks d (handled d t m code)
   unfolding handled
-  handled-marks m User = came-marks m m.message.body
-  handled-marks m Recorded = came-marks m m.message.body
-  handled-marks m Acknowledge = came_back-marks m m.message.body
+  handled-marks m User = delivered-marks m m.message.body
+  handled-marks m Recorded = delivered-marks m m.message.body
+  handled-marks m Acknowledge = bounced_to-marks m m.message.body
 
 -- ---- commands
 

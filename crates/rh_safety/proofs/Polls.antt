@@ -20,7 +20,7 @@ use Rattle.rh_safety.proofs.Arrivals.{LetterOk, Read, letter_apart, shut_good}
 -- ---- RAMFetch
 
 -- what the sender knows where it is to answer; the other records of task h that would answer the fetch are x alone
-pub record Called (o : Offered) (e : ℕ → ℕ → Bool) (d : Desk) (h : ℕ) (x : Sending) (l : Letter) : Type 0 where
+pub record FetchCall (o : Offered) (e : ℕ → ℕ → Bool) (d : Desk) (h : ℕ) (x : Sending) (l : Letter) : Type 0 where
   pub inv : Inv o e d
   pub others : (s : ℕ) (y : Sending) → Has (Open y) (d.sending s) → (s ≡ h → y.id ≢ x.id) → PendingAt d s y
   pub born : (i : ℕ) → d.next_ref ≤ i → o i ≡ None
@@ -49,7 +49,7 @@ pub portion_ok : (source : List ℕ) (x : Sending) (l : Letter) → x.count ≤ 
     Portion source x l (sender.next_part (answer_of l x) (length source)).n
 portion_ok source x l le = record { within = omega arith; fits = omega arith; short = λ s. omega arith }
 
-module _ {o : Offered} {e : ℕ → ℕ → Bool} {d : Desk} (h : ℕ) (l : Letter) (x : Sending) (g : Called o e d h x l) where
+module _ {o : Offered} {e : ℕ → ℕ → Bool} {d : Desk} (h : ℕ) (l : Letter) (x : Sending) (g : FetchCall o e d h x l) where
   pub failed_good : Good o e (failed d h x)
   failed_good = shut_good h x g.inv g.others g.born g.is_open
 
@@ -282,7 +282,7 @@ module _ {o : Offered} {e : ℕ → ℕ → Bool} {d : Desk} (h : ℕ) (l : Lett
 
   -- a fetch that a record answers
   pub called : l.kind ≡ RamFetch → d.file h ≡ false → (x : Sending) → Has (Open x) (d.sending h) → would_answer l x ≡ true →
-      Called o e d h x l
+      FetchCall o e d h x l
   called k file x has passes =
       let u = would_tells x l passes in
       record {

@@ -292,15 +292,15 @@ module _ (d : Desk) (t : Task) where
 
   -- ---- a message that came back
 
-  came_back_fine : (m : Parcel) (b : Body) → Fine (transfer.bounced_to d t m b)
+  bounced_to_fine : (m : Parcel) (b : Body) → Fine (transfer.bounced_to d t m b)
   unfolding transfer.bounced_to
-  came_back_fine m (body.DataSave file) = fail_fine d t _
-  came_back_fine m (body.DataSaveAck file) = ack_back_fine d t _
-  came_back_fine m (body.DataLoad file) = fail_fine d t _
-  came_back_fine m (body.DataLoadAck file) = refl
-  came_back_fine m (body.RamFetch buffer amount) =
+  bounced_to_fine m (body.DataSave file) = fail_fine d t _
+  bounced_to_fine m (body.DataSaveAck file) = ack_back_fine d t _
+  bounced_to_fine m (body.DataLoad file) = fail_fine d t _
+  bounced_to_fine m (body.DataLoadAck file) = refl
+  bounced_to_fine m (body.RamFetch buffer amount) =
       perform_take_fine _ (bounce-does (HasDocument t) t.taking _ (λ f has. tt) (λ f e has. tt))
-  came_back_fine m (body.RamTransmit buffer n) = fail_fine d t _
+  bounced_to_fine m (body.RamTransmit buffer n) = fail_fine d t _
 
 -- ---- a poll
 
@@ -337,33 +337,33 @@ module _ {o : Offered} {e : ℕ → ℕ → Bool} (d : Desk) (t : Task) (m : Par
       let s = document_there is inv (incoming.Asking x) has tt in
       block_there_in d t is x.anchor (take 0 s.all) s.there
 
-  came_fine : (is : task_of t.handle d.tasks ≡ Some t) (b : Body) → Taken o e (view d) t.handle (letter_of m b) →
+  delivered_fine : (is : task_of t.handle d.tasks ≡ Some t) (b : Body) → Taken o e (view d) t.handle (letter_of m b) →
       Fine (transfer.delivered d t m b)
   unfolding transfer.delivered
-  came_fine is (body.DataSave file) tk = perform_take_fine d t _ (save-does (HasDocument t) t.taking _ _ _ tt)
-  came_fine is (body.DataSaveAck file) tk =
+  delivered_fine is (body.DataSave file) tk = perform_take_fine d t _ (save-does (HasDocument t) t.taking _ _ _ tt)
+  delivered_fine is (body.DataSaveAck file) tk =
       perform_send_fine d t _
       (open-does (HasSource d t) t.sending (sender.file_for m.message.from m.message.my_ref) _ (λ x has p. (source_there is tk.inv x has, tt)))
-  came_fine is (body.DataLoad file) tk =
+  delivered_fine is (body.DataLoad file) tk =
       perform_take_fine d t _ (load-does (HasDocument t) t.taking _ _ _ (λ x has p. asking_there is tk.inv x has))
-  came_fine is (body.DataLoadAck file) tk =
+  delivered_fine is (body.DataLoadAck file) tk =
       perform_send_fine d t _ (open-does (HasSource d t) t.sending send_action.Finish _ (λ x has p. (source_there is tk.inv x has, tt)))
-  came_fine is (body.RamFetch buffer amount) tk =
+  delivered_fine is (body.RamFetch buffer amount) tk =
       let test : Sending → Bool = sight.would_answer (fetch_in m buffer amount) in
       either Fine (answers_none t.manner) (ignored d) _ (λ y. refl) (λ y.
       perform_send_fine d t _ (if-mapped (HasSource d t) (sender.transmit_for m.message.from m.message.my_ref buffer amount)
       (open_of test t.sending)
       (λ x q. let w = open_is test t.sending x q in (source_there is tk.inv x w.0, reaches d t m is buffer amount tk x w.0 y w.1))))
-  came_fine is (body.RamTransmit buffer n) tk =
+  delivered_fine is (body.RamTransmit buffer n) tk =
       perform_take_fine d t _
       (transmit-does (HasDocument t) t.taking _ _ _ _ _ _ (λ f has. fetching_there is tk.inv f has) (λ f e has. tt))
 
   handled_fine : Given o e d t m → (c : EventCode) → m.code ≡ c → Fine (transfer.handled d t m c)
   unfolding transfer.handled
-  handled_fine w User q = came_fine w.is m.message.body (w.came (λ z. let y : User ≡ Acknowledge = sym q ∙ z in (cc)))
-  handled_fine w Recorded q = came_fine w.is m.message.body (w.came (λ z. let y : Recorded ≡ Acknowledge = sym q ∙ z in
+  handled_fine w User q = delivered_fine w.is m.message.body (w.came (λ z. let y : User ≡ Acknowledge = sym q ∙ z in (cc)))
+  handled_fine w Recorded q = delivered_fine w.is m.message.body (w.came (λ z. let y : Recorded ≡ Acknowledge = sym q ∙ z in
       (cc)))
-  handled_fine w Acknowledge q = came_back_fine d t m m.message.body
+  handled_fine w Acknowledge q = bounced_to_fine d t m m.message.body
 
 poll_fine : {o : Offered} {e : ℕ → ℕ → Bool} (d : Desk) (t : Task) → Fits d → task_of t.handle d.tasks ≡ Some t →
     Good o e (view d) → is_bad_reply (poll_taken (with_delivered (post_poll t.handle d.post).0 d) t (post_poll t.handle

@@ -1,6 +1,6 @@
 -- The anchor words that aren't 0 are as many as the blocks just where each of them leads to a block.
 use Rattle.rh_slot.proofs.Common.{◌≡◌, ℕ, zero, suc, ◌+◌, ◌*◌, ◌<◌, ◌≤◌, inl, inr, Bool, true, false, eqb, List, [], ◌∷◌, length, refl, sym, ap, ◌∙◌, arith}
-use Rattle.rh_slot.proofs.Common.{◌||◌, if◌then◌else◌, cases_eq, word, Flex, weight, slot_start, IsFree, HaveAnchors, anchor_count, Hang, flex_in, eqb_same}
+use Rattle.rh_slot.proofs.Common.{◌||◌, if◌then◌else◌, cases_eq, word, Flex, weight, slot_start, IsFree, HaveAnchors, anchor_count, Anchored, flex_in, eqb_same}
 use Rattle.rh_slot.proofs.Common.{eqb_apart, are_hung}
 use Rattle.rh_defs.proofs.HeapFaults.{eq_from}
 use Rattle.rh_slot.specs.SlotChecks.{has_anchor, is_hung}
@@ -54,7 +54,7 @@ held_all [] n a h = held_none n
 held_all (f ∷ fs) n a h = let l = a.0 in held_above f fs n a.1 (omega arith) ∙ ap suc (held_all fs n a.2 h)
 
 -- a block's anchor word isn't 0
-led : (b : List ℕ) (q : ℕ) (fs : List Flex) (k : ℕ) → Hang b q fs → has_anchor fs k ≡ true → word b (4 * k) ≡ 0 → ⊥
+led : (b : List ℕ) (q : ℕ) (fs : List Flex) (k : ℕ) → Anchored b q fs → has_anchor fs k ≡ true → word b (4 * k) ≡ 0 → ⊥
 led b q [] k h e z = absurd cc
 led b q (f ∷ fs) k h e z = go (eqb f.anchor k) refl e (λ y. led b (q + weight f) fs k h.1 y z)
   where
@@ -113,7 +113,7 @@ module _ (b : List ℕ) (fs : List Flex) (lead : (k : ℕ) → has_anchor fs k �
 
 module _ (b : List ℕ) (k p : ℕ) where
   counts : Counted b (flex_in k b p) anchor_count
-  counts = count b (flex_in k b p) (λ j. led b p (flex_in k b p) j (rows k b p).hang) anchor_count
+  counts = count b (flex_in k b p) (λ j. led b p (flex_in k b p) j (rows k b p).anchored) anchor_count
 
   all_held : held (flex_in k b p) anchor_count ≡ length (flex_in k b p)
   all_held = held_all (flex_in k b p) anchor_count (rows k b p).anchors (omega arith)

@@ -15,7 +15,8 @@ pub use Rattle.rh_defs.proofs.Chains.{refuse_if-false, refuse_if-true}
 pub use Rattle.rh_defs.proofs.HeapLists.{IsCut, cond_false, cond_true, eqb_apart, eqb_same, first_at-cuts, ltb_no, ltb_yes, sum-append}
 pub use Rattle.rh_defs.proofs.MemoryLaws.{OnlyArea-both, OnlyArea-from_Edited, bytes-with_bytes}
 pub use Rattle.rh_defs.proofs.SlotImageLaws.{SpellsSlot-with_heap}
-pub use Rattle.rh_defs.proofs.SlotLaws.{Carried, Hang-same, Hang-split, HaveAnchors-cut, Lie-same, Lie-split, Spells-same, block_of-at, in_above, in_below}
+pub use Rattle.rh_defs.proofs.SlotLaws.{Carried, Anchored-same, Anchored-split, HaveAnchors-cut, Lie-same, Lie-split, Spells-same}
+pub use Rattle.rh_defs.proofs.SlotLaws.{block_of-at, in_above, in_below}
 pub use Rattle.rh_defs.proofs.SlotLaws.{in_both, part_of, same_both, wider}
 pub use Rattle.rh_defs.specs.Bytes.{SameIn, SameOutside, with_part}
 unfoldable pub use Rattle.rh_defs.specs.Bytes.{part, word}
@@ -30,7 +31,7 @@ pub use Rattle.rh_defs.specs.Pieces.{Split, moved, pages_for, total, written, ze
 pub use Rattle.rh_defs.specs.Slot.{Flex, HaveAnchors, IsFree, Slot, anchor_count, flex_address, flex_start, flex_weight, heap_block_at, heap_start}
 pub use Rattle.rh_defs.specs.Slot.{lacks_room, slot_length, slot_pages, slot_start, weight, with_block, with_block_bytes}
 unfoldable pub use Rattle.rh_defs.specs.Slot.{slot_block, slot_put}
-pub use Rattle.rh_defs.specs.SlotImage.{Hang, Lie, SlotWords, SpellsSlot, flex_place, heap_place, is_block}
+pub use Rattle.rh_defs.specs.SlotImage.{Anchored, Lie, SlotWords, SpellsSlot, flex_place, heap_place, is_block}
 unfoldable pub use Rattle.rh_defs.specs.SlotImage.{flex_in, slot_of}
 pub use Rattle.rh_defs.specs.declared.question.BlockItem.{BlockItem}
 pub use Rattle.rh_defs.specs.declared.refusal.Refusal.{Refusal}

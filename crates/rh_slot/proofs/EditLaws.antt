@@ -3,9 +3,10 @@ use Rattle.rh_slot.proofs.Common.{◌≡◌, ℕ, ◌+◌, ◌-◌, ◌*◌, ◌
 use Rattle.rh_slot.proofs.Common.{take, drop, ltb, refl, sym, ap, subst, ◌∙◌, arith, length-replicate, length-take-le, take_all, append-nil, cases_lt, Ok}
 use Rattle.rh_slot.proofs.Common.{Err, IsTrue, ◌↔◌, ◌||◌, PAGE, NoBlock, NoRoom, word, part, with_part, SameIn, SameOutside, total, pages_for, zeros, moved}
 use Rattle.rh_slot.proofs.Common.{written, Split, fitted, Flex, Slot, weight, flex_weight, slot_length, slot_pages, IsFree, HaveAnchors, with_block_bytes}
-use Rattle.rh_slot.proofs.Common.{lacks_room, slot_put, Lie, Hang, SlotWords, flex_place, heap_place, word_same, part_same, length-part, put_outside}
+use Rattle.rh_slot.proofs.Common.{lacks_room, slot_put, Lie, Anchored, SlotWords, flex_place, heap_place, word_same, part_same, length-part, put_outside}
 use Rattle.rh_slot.proofs.Common.{SameOutside-self, sum-append, ltb_yes, ltb_no, part_of, wider, same_both, in_below, in_above, in_both, Carried, Lie-split}
-use Rattle.rh_slot.proofs.Common.{Lie-same, Hang-split, Hang-same, HaveAnchors-cut, BlockRow, Shifted, FoundAt, FoundFlex, ◌>>=◌, refuse_if, refuse_if-true}
+use Rattle.rh_slot.proofs.Common.{Lie-same, Anchored-split, Anchored-same, HaveAnchors-cut, BlockRow, Shifted, FoundAt, FoundFlex}
+use Rattle.rh_slot.proofs.Common.{◌>>=◌, refuse_if, refuse_if-true}
 use Rattle.rh_slot.proofs.Common.{refuse_if-false}
 use Rattle.std.proofs.lemmas.List.{length-drop, drop_all}
 use Rattle.std.proofs.Math.ListN.{length-append}
@@ -71,7 +72,7 @@ changed {b} {b1} {c} {d} {s} {k} {place} {size} {from} {n} {to} {cut} bytes slid
     let st = t.stands in
     let low = t.low in
     let lf = (Lie-split b (flex_place s) xs (f ∷ ys) (subst (Lie b (flex_place s)) t.is w.lie)).1 in
-    let hf = (Hang-split b (flex_place s) xs (f ∷ ys) (subst (Hang b (flex_place s)) t.is w.hang)).1 in
+    let hf = (Anchored-split b (flex_place s) xs (f ∷ ys) (subst (Anchored b (flex_place s)) t.is w.anchored)).1 in
     let apart_of = HaveAnchors-cut xs f ys (subst HaveAnchors t.is w.anchors) in
     let sm = apart_of.small in
     let header : word d place ≡ 32768 + 4 * f.anchor =
@@ -87,7 +88,7 @@ changed {b} {b1} {c} {d} {s} {k} {place} {size} {from} {n} {to} {cut} bytes slid
           below (omega arith)
           (header, h, p, tt) (link, tt)
           (Lie-same c d to (to + n) ys (in_above o (omega arith)) (omega arith) x.lie)
-          (Hang-same c d to ys a.2 (in_below o (omega arith)) x.hung.hang)
+          (Anchored-same c d to ys a.2 (in_below o (omega arith)) x.hung.anchored)
           (λ j u v m y. word_same c d (4 * j) (in_below o (omega arith)) ∙ x.hung.others j u y ∙ word_same b b1 (4 * j) (in_below ob (omega arith)))
           (λ j u v. inl v)
           (anchors-here f new ys refl xs (subst HaveAnchors t.is w.anchors)),
@@ -100,12 +101,12 @@ unmoved : {b : List ℕ} {s : Slot} {k place size from n : ℕ} {cut : Split Fle
 unmoved {b} {s} {k} {place} {size} {from} {n} {cut} w t ef en fs l e =
     let a = above b s k place size from n cut w t ef en in
     let same : cut.after ≡ fs = Lie-unique b from cut.after fs a.0 l (a.1 ∙ sym e) in
-    let h = (Hang-split b (flex_place s) cut.before (cut.here ∷ cut.after) (subst (Hang b (flex_place s)) t.is w.hang)).1.1 in
+    let h = (Anchored-split b (flex_place s) cut.before (cut.here ∷ cut.after) (subst (Anchored b (flex_place s)) t.is w.anchored)).1.1 in
     let st = t.stands in
     let wl : flex_weight size ≡ weight cut.here = ap flex_weight t.long in
     let q : flex_place s + total weight cut.before + weight cut.here ≡ from = omega arith in
-    let h2 : Hang b from cut.after = subst (λ p. Hang b p cut.after) q h in
-    record { lie = l; hung = record { hang = subst (Hang b from) same h2; others = λ j u v. refl } }
+    let h2 : Anchored b from cut.after = subst (λ p. Anchored b p cut.after) q h in
+    record { lie = l; hung = record { anchored = subst (Anchored b from) same h2; others = λ j u v. refl } }
 
 -- ---- parts of a block's bytes
 part_take : (b : List ℕ) (p n a : ℕ) (bytes : List ℕ) → part b p n ≡ bytes → a ≤ n → part b p a ≡ take a bytes

@@ -3,8 +3,8 @@ use Rattle.rh_slot.proofs.Common.{◌≡◌, ℕ, ◌+◌, ◌-◌, ◌*◌, ◌
 use Rattle.rh_slot.proofs.Common.{ap, subst, ◌∙◌, append_assoc, arith, rules, append-nil, length-replicate, cases_eq, cases_lt, is_some, Ok, Err, ◌↔◌, PAGE}
 use Rattle.rh_slot.proofs.Common.{NoBlock, NoRoom, word, part, SameIn, SameOutside, Granted, ◌>>=◌, found_or, total, pages_for, zeros, Split, Flex, Slot}
 use Rattle.rh_slot.proofs.Common.{weight, flex_weight, slot_length, slot_pages, flex_address, IsFree, HaveAnchors, with_block, lacks_room, slot_block}
-use Rattle.rh_slot.proofs.Common.{anchor_count, Lie, Hang, SlotWords, SpellsSlot, flex_place, heap_place, word_same, part_same, sum-append, ltb_yes, ltb_no}
-use Rattle.rh_slot.proofs.Common.{part_of, wider, same_both, in_below, in_above, in_both, Lie-split, Lie-same, Hang-split, Hang-same, HaveAnchors-cut}
+use Rattle.rh_slot.proofs.Common.{anchor_count, Lie, Anchored, SlotWords, SpellsSlot, flex_place, heap_place, word_same, part_same, sum-append, ltb_yes, ltb_no}
+use Rattle.rh_slot.proofs.Common.{part_of, wider, same_both, in_below, in_above, in_both, Lie-split, Lie-same, Anchored-split, Anchored-same, HaveAnchors-cut}
 use Rattle.rh_slot.proofs.Common.{block_of-at, Spells-same, BlockRow, Shifted, Walked, FoundAt, FoundFlex, refuse_if-true, refuse_if-false}
 use Rattle.rh_defs.specs.declared.refusal.Refusal.TheVariants.{AnchorInUse}
 use Rattle.rh_defs.specs.Slot.{without, is_used, slot_size, slot_address, slot_free, slot_alloc}
@@ -12,8 +12,8 @@ use Rattle.std.proofs.Common.{ap₂}
 use Rattle.std.proofs.lemmas.List.{replicate-append-replicate}
 use Rattle.rh_defs.proofs.Anchors.{anchors-append}
 use Rattle.rh_defs.proofs.BytesLaws.{part_more}
-use Rattle.rh_defs.proofs.SlotLaws.{Lie-join, Hang-join, IsFree-split, IsFree-join, find, block_of-none}
-use Rattle.rh_slot.proofs.ShiftLaws.{apart, Hang-apart}
+use Rattle.rh_defs.proofs.SlotLaws.{Lie-join, Anchored-join, IsFree-split, IsFree-join, find, block_of-none}
+use Rattle.rh_slot.proofs.ShiftLaws.{apart, Anchored-apart}
 
 -- the slot with other blocks
 abbrev pub with_blocks : List Flex → Slot → Slot
@@ -25,7 +25,7 @@ words_same b c s o l w = record {
   heap = Spells-same b c heap_place s.heap (part_of o (omega arith) (omega arith)) (omega arith) w.heap;
   within = l;
   lie = Lie-same b c (flex_place s) (slot_length s) s.blocks (part_of o (omega arith) (omega arith)) (omega arith) w.lie;
-  hang = Hang-same b c (flex_place s) s.blocks w.anchors (part_of o (omega arith) (omega arith)) w.hang;
+  anchored = Anchored-same b c (flex_place s) s.blocks w.anchors (part_of o (omega arith) (omega arith)) w.anchored;
   none = λ k u v. word_same b c (4 * k) (part_of o (omega arith) (omega arith)) ∙ w.none k u v;
   anchors = w.anchors;
 }
@@ -51,7 +51,7 @@ leads_at : (b : List ℕ) (s : Slot) (k a : ℕ) (xs : List Flex) (f : Flex) (ys
     → IsFree k xs → a ≡ word b (4 * k) → Leads b s k a
 leads_at b s k a xs f ys w is e u r =
     let l = Lie-split b (flex_place s) xs (f ∷ ys) (subst (Lie b (flex_place s)) is w.lie) in
-    let h = Hang-split b (flex_place s) xs (f ∷ ys) (subst (Hang b (flex_place s)) is w.hang) in
+    let h = Anchored-split b (flex_place s) xs (f ∷ ys) (subst (Anchored b (flex_place s)) is w.anchored) in
     let q : a ≡ 32768 + (flex_place s + total weight xs) + 8 = r ∙ ap (λ j. word b (4 * j)) (sym e) ∙ h.1.0 in
     let sum : total weight s.blocks ≡ total weight xs + (weight f + total weight ys) = ap (total weight) is ∙ sum-append weight xs (f ∷ ys) in
     let fits = w.within in
@@ -79,25 +79,25 @@ leads b s k p a w l ep e =
     ]
 
 -- ---- blocks in the middle of the list are replaced
-Hang-kept : (b d : List ℕ) (p : ℕ) (xs mid new ys : List Flex) → HaveAnchors (xs ++ (mid ++ ys)) → HaveAnchors (xs ++ (new ++ ys))
-    → ((j : ℕ) → j < anchor_count → IsFree j mid → IsFree j new → IsFree j ys → word d (4 * j) ≡ word b (4 * j)) → Hang b p xs → Hang d p xs
-Hang-kept b d p [] mid new ys x y o h = tt
-Hang-kept b d p (f ∷ xs) mid new ys x y o h =
+Anchored-kept : (b d : List ℕ) (p : ℕ) (xs mid new ys : List Flex) → HaveAnchors (xs ++ (mid ++ ys)) → HaveAnchors (xs ++ (new ++ ys))
+    → ((j : ℕ) → j < anchor_count → IsFree j mid → IsFree j new → IsFree j ys → word d (4 * j) ≡ word b (4 * j)) → Anchored b p xs → Anchored d p xs
+Anchored-kept b d p [] mid new ys x y o h = tt
+Anchored-kept b d p (f ∷ xs) mid new ys x y o h =
     let u = IsFree-split f.anchor mid ys (IsFree-split f.anchor xs (mid ++ ys) x.1).1 in
     let v = IsFree-split f.anchor new ys (IsFree-split f.anchor xs (new ++ ys) y.1).1 in
-    (o f.anchor x.0 u.0 v.0 u.1 ∙ h.0, Hang-kept b d (p + weight f) xs mid new ys x.2 y.2 o h.1)
+    (o f.anchor x.0 u.0 v.0 u.1 ∙ h.0, Anchored-kept b d (p + weight f) xs mid new ys x.2 y.2 o h.1)
 
 pub rebuilt : (b d : List ℕ) (s : Slot) (xs mid new ys : List Flex) (p q : ℕ)
     → SlotWords b s → s.blocks ≡ xs ++ (mid ++ ys) → p ≡ flex_place s + total weight xs → q ≡ p + total weight new
     → SameIn b d heap_place p → q + total weight ys ≤ length d
-    → Lie d p new → Hang d p new → Lie d q ys → Hang d q ys
+    → Lie d p new → Anchored d p new → Lie d q ys → Anchored d q ys
     → ((j : ℕ) → j < anchor_count → IsFree j mid → IsFree j new → IsFree j ys → word d (4 * j) ≡ word b (4 * j))
     → ((j : ℕ) → j < anchor_count → IsFree j new → IsFree j mid ⊎ (word d (4 * j) ≡ 0))
     → HaveAnchors (xs ++ (new ++ ys))
     → SlotWords d (with_blocks (xs ++ (new ++ ys)) s)
 rebuilt b d s xs mid new ys p q w is pp qq same fits ln hn ly hy others lost anchors =
     let lx = (Lie-split b (flex_place s) xs (mid ++ ys) (subst (Lie b (flex_place s)) is w.lie)).0 in
-    let hx = (Hang-split b (flex_place s) xs (mid ++ ys) (subst (Hang b (flex_place s)) is w.hang)).0 in
+    let hx = (Anchored-split b (flex_place s) xs (mid ++ ys) (subst (Anchored b (flex_place s)) is w.anchored)).0 in
     let old = subst HaveAnchors is w.anchors in
     let sum : total weight (xs ++ (new ++ ys)) ≡ total weight xs + (total weight new + total weight ys) =
     sum-append weight xs (new ++ ys) ∙ ap (λ n. total weight xs + n) (sum-append weight new ys) in
@@ -106,8 +106,8 @@ rebuilt b d s xs mid new ys p q w is pp qq same fits ln hn ly hy others lost anc
       within = omega arith;
       lie = Lie-join d (flex_place s) p xs (new ++ ys) pp (Lie-same b d (flex_place s) p xs (part_of same (omega arith) (omega arith)) (omega arith) lx)
           (Lie-join d p q new ys qq ln ly);
-      hang = Hang-join d (flex_place s) p xs (new ++ ys) pp (Hang-kept b d (flex_place s) xs mid new ys old anchors others hx)
-          (Hang-join d p q new ys qq hn hy);
+      anchored = Anchored-join d (flex_place s) p xs (new ++ ys) pp (Anchored-kept b d (flex_place s) xs mid new ys old anchors others hx)
+          (Anchored-join d p q new ys qq hn hy);
       none = λ j u v.
           let a = IsFree-split j xs (new ++ ys) v in
           let r = IsFree-split j new ys a.1 in
@@ -174,7 +174,7 @@ freed b c d s k p place size from n cut w t l ep ef en sh same len op zp =
       rebuilt b d s xs (f ∷ []) [] ys place place w t.is st (omega arith)
           (in_both same (in_above o (omega arith))) (let dl = o.len in omega arith) tt tt
           (Lie-same c d place (place + total weight ys) ys (in_above o (omega arith)) (omega arith) x.lie)
-          (Hang-apart c d place k ys o (subst (λ j. IsFree j ys) e apart_of.after) x.hung.hang)
+          (Anchored-apart c d place k ys o (subst (λ j. IsFree j ys) e apart_of.after) x.hung.anchored)
           (λ j u m v y. apart c d j k o (λ q. m.0 (e ∙ sym q)) ∙ x.hung.others j u y)
           (λ j u v. elim (cases_eq j k) [ inl q ↦ inr (ap (λ i. word d (4 * i)) q ∙ z) | inr q ↦ inl ((λ r. q (sym r ∙ e)), tt) ])
           apart_of.rest,

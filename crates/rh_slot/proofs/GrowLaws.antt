@@ -4,8 +4,8 @@ use Rattle.rh_slot.proofs.Common.{cases_eq, cases_lt, ◌-◌, Option, Some, Non
 use Rattle.rh_slot.proofs.Common.{IsOpen, Resized, bytes, total, pages_for, zeros, moved, Split, Granted, ◌>>=◌, refuse_if, Segment, Heap, need}
 use Rattle.rh_slot.proofs.Common.{claim_growing, raised, base, Spells, Flex, weight, slot_length, Span, heap_in, SpellsSlotIn, slot_in, BlockRow, Shifted}
 use Rattle.rh_slot.proofs.Common.{lengthened}
-use Rattle.rh_slot.proofs.Common.{heap_start, Lie, Hang, SlotWords, SpellsSlot, flex_place, heap_place, Refusal, NoRoom, word_same, cond_true, cond_false}
-use Rattle.rh_slot.proofs.Common.{eqb_same, eqb_apart, ltb_yes, ltb_no, part_of, in_below, in_above, Lie-same, Hang-same, Spells-same, SpellsSlot-with_heap}
+use Rattle.rh_slot.proofs.Common.{heap_start, Lie, Anchored, SlotWords, SpellsSlot, flex_place, heap_place, Refusal, NoRoom, word_same, cond_true, cond_false}
+use Rattle.rh_slot.proofs.Common.{eqb_same, eqb_apart, ltb_yes, ltb_no, part_of, in_below, in_above, Lie-same, Anchored-same, Spells-same, SpellsSlot-with_heap}
 use Rattle.rh_defs.specs.Heap.{Placed, claim_need, placed_block, placed_in, hole_for, shortage_in, block_room, segment_size, extended}
 use Rattle.rh_defs.specs.Slot.{is_stuck, with_heap, slot_claim}
 use Rattle.rh_defs.specs.Slot as plain
@@ -40,7 +40,7 @@ budged b c d s h more from to n edge w ef et en fits sh len o low k eh =
       heap = k;
       within = omega arith;
       lie = subst (λ p. Lie d p s.blocks) q (Lie-same c d to (to + n) s.blocks (in_above o (omega arith)) (omega arith) x.lie);
-      hang = subst (λ p. Hang d p s.blocks) q (Hang-same c d to s.blocks w.anchors (in_below o (omega arith)) x.hung.hang);
+      anchored = subst (λ p. Anchored d p s.blocks) q (Anchored-same c d to s.blocks w.anchors (in_below o (omega arith)) x.hung.anchored);
       none = λ j u v. word_same c d (4 * j) (in_below o (omega arith)) ∙ x.hung.others j u v ∙ w.none j u v;
       anchors = w.anchors;
     }

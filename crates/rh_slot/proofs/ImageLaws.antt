@@ -2,7 +2,8 @@
 use Rattle.rh_slot.proofs.Common.{◌≡◌, ℕ, zero, suc, ◌+◌, ◌-◌, ◌*◌, ◌/◌, ◌%◌, ◌<◌, ◌≤◌, ◌⊎◌, inl, inr, Bool, true, false, leb, eqb, List, [], ◌∷◌, length}
 use Rattle.rh_slot.proofs.Common.{take, drop, get_or, refl, sym, ap, subst, ◌∙◌, arith, Some, None, ◌&&◌, ◌||◌, ◌==◌, nat_le, cases_eq, nat_tests}
 use Rattle.rh_slot.proofs.Common.{length-take-le, take_all, PAGE, word, part, total, Segment, Used, Hole, Heap, Stand, Spells, fault_of, Flex, Slot, weight}
-use Rattle.rh_slot.proofs.Common.{flex_weight, slot_start, slot_length, slot_pages, IsFree, HaveAnchors, anchor_count, Lie, Hang, is_block, flex_in, slot_of}
+use Rattle.rh_slot.proofs.Common.{flex_weight, slot_start, slot_length, slot_pages, IsFree, HaveAnchors, anchor_count}
+use Rattle.rh_slot.proofs.Common.{Lie, Anchored, is_block, flex_in, slot_of}
 use Rattle.rh_slot.proofs.Common.{heap_place, length-part, cond_true, cond_false, eqb_same, eqb_apart, Spells-same, are_hung, BadSize, BadAnchor, SparePage}
 use Rattle.std.proofs.lemmas.List.{get_or-drop, get_or-take, length-drop}
 use Rattle.rh_defs.specs.HeapImage.{IsImage, heap_of}
@@ -126,11 +127,11 @@ weight-block_at b p = ap (λ n. p + flex_weight n) (length-part b (p + 8) (word 
 -- blocks that lie from a place on have their anchors
 pub record Rows (b : List ℕ) (p : ℕ) (fs : List Flex) : Type 0 where
   pub lie : Lie b p fs
-  pub hang : Hang b p fs
+  pub anchored : Anchored b p fs
   pub anchors : HaveAnchors fs
 
 -- an anchor that leads to a place is that of no block above it
-free_above : (b : List ℕ) (k p q : ℕ) (fs : List Flex) → Hang b q fs → p < q → word b (4 * k) ≡ slot_start + p + 8 → IsFree k fs
+free_above : (b : List ℕ) (k p q : ℕ) (fs : List Flex) → Anchored b q fs → p < q → word b (4 * k) ≡ slot_start + p + 8 → IsFree k fs
 free_above b k p q [] h l w = tt
 free_above b k p q (f ∷ fs) h l w = (
   (λ e. let v : word b (4 * k) ≡ slot_start + q + 8 = ap (λ a. word b (4 * a)) (sym e) ∙ h.0 in absurd (omega arith)),
@@ -148,18 +149,18 @@ rows_on b p fs i r =
     let step = sym (weight-block_at b p) in
     record {
       lie = ((let x : word b p ≡ slot_start + 4 * k = omega arith in x), sym len, ap (part b (p + 8)) len, subst (λ q. Lie b q fs) step r.lie);
-      hang = (back, subst (λ q. Hang b q fs) step r.hang);
-      anchors = ((let x : k < anchor_count = omega arith in x), free_above b k p (after b p) fs r.hang (omega arith) back, r.anchors);
+      anchored = (back, subst (λ q. Anchored b q fs) step r.anchored);
+      anchors = ((let x : k < anchor_count = omega arith in x), free_above b k p (after b p) fs r.anchored (omega arith) back, r.anchors);
     }
 
 pub rows : (k : ℕ) (b : List ℕ) (p : ℕ) → Rows b p (flex_in k b p)
 unfolding flex_in
-rows zero b p = record { lie = tt; hang = tt; anchors = tt }
+rows zero b p = record { lie = tt; anchored = tt; anchors = tt }
 rows (suc k) b p = go (is_block b p) refl (rows k b (after b p))
   where
     go : (t : Bool) → is_block b p ≡ t → Rows b (after b p) (flex_in k b (after b p)) → Rows b p (flex_in (suc k) b p)
     go true e r = subst (Rows b p) (sym (flex_in-yes k b p e)) (rows_on b p (flex_in k b (after b p)) (is_block-is b p e) r)
-    go false e r = subst (Rows b p) (sym (flex_in-no (suc k) b p e)) (record { lie = tt; hang = tt; anchors = tt })
+    go false e r = subst (Rows b p) (sym (flex_in-no (suc k) b p e)) (record { lie = tt; anchored = tt; anchors = tt })
 
 -- ---- no block stands at the end
 
@@ -299,7 +300,7 @@ is_slot b h i l within hung pages =
           heap = subst (Spells b heap_place) (sym (heap_of-Spells b heap_place h s)) s;
           within = within;
           lie = r.lie;
-          hang = r.hang;
+          anchored = r.anchored;
           none = λ k u v. none_from b (read b).blocks k hung u v;
           anchors = r.anchors;
         };

@@ -1,12 +1,12 @@
 -- Blocks that slid, and the walk that writes their anchor words.
 use Rattle.rh_slot.proofs.Common.{◌≡◌, ℕ, ◌+◌, ◌-◌, ◌*◌, ◌^◌, ◌<◌, ◌≤◌, ◌≢◌, ◌⊎◌, inl, inr, List, [], ◌∷◌, ◌++◌, length, get_or, refl, sym, ap, subst, ◌∙◌}
 use Rattle.rh_slot.proofs.Common.{append_assoc, arith, cases_lt, append-nil, word, with_part, part, SameOutside, total, Flex, weight, flex_weight, IsFree}
-use Rattle.rh_slot.proofs.Common.{HaveAnchors, heap_start, Lie, Hang, heap_place, word_same, length-put, length-part, SameOutside-self, sum-append, wider}
+use Rattle.rh_slot.proofs.Common.{HaveAnchors, heap_start, Lie, Anchored, heap_place, word_same, length-put, length-part, SameOutside-self, sum-append, wider}
 use Rattle.rh_slot.proofs.Common.{same_both, in_below, in_above, Lie-same, HaveAnchors-cut, Carried, BlockRow, Shifted, HangsApart}
 use Rattle.rh_defs.specs.Bytes.{put_word}
 use Rattle.rh_defs.proofs.BytesLaws.{length-put_word, put_above, put_inside, put-part, put_word_outside, word-part, word-put_above, word-put_inside}
 use Rattle.rh_defs.proofs.BytesLaws.{word-put_word}
-use Rattle.rh_defs.proofs.SlotLaws.{Lie-carried, Lie-unique, Hang-join, IsFree-split, none_weigh}
+use Rattle.rh_defs.proofs.SlotLaws.{Lie-carried, Lie-unique, Anchored-join, IsFree-split, none_weigh}
 use Rattle.rh_slot.specs.Row.{Hung}
 use Rattle.rh_slot.specs.Inner.RowWalks.{Hanging}
 
@@ -20,7 +20,7 @@ hanging_start b from n r = record {
   place = omega arith;
   left = (let e = r.sum in omega arith);
   rest_lies = r.lie;
-  hung = record { hang = tt; others = λ k l u. refl };
+  hung = record { anchored = tt; others = λ k l u. refl };
   outside = SameOutside-self b 0 heap_place;
 }
 
@@ -43,9 +43,9 @@ apart c d j k s n = elim (sides j k n) [
   | inr l ↦ word_same c d (4 * j) (in_above s (omega arith))
 ]
 
-pub Hang-apart : (c d : List ℕ) (p k : ℕ) (fs : List Flex) → SameOutside c d (4 * k) (4 * k + 4) → IsFree k fs → Hang c p fs → Hang d p fs
-Hang-apart c d p k [] s u h = tt
-Hang-apart c d p k (f ∷ fs) s u h = (apart c d f.anchor k s u.0 ∙ h.0, Hang-apart c d (p + weight f) k fs s u.1 h.1)
+pub Anchored-apart : (c d : List ℕ) (p k : ℕ) (fs : List Flex) → SameOutside c d (4 * k) (4 * k + 4) → IsFree k fs → Anchored c p fs → Anchored d p fs
+Anchored-apart c d p k [] s u h = tt
+Anchored-apart c d p k (f ∷ fs) s u h = (apart c d f.anchor k s u.0 ∙ h.0, Anchored-apart c d (p + weight f) k fs s u.1 h.1)
 
 -- what the header words at a place say
 pub record Turn (b c : List ℕ) (from n p a s : ℕ) : Type 0 where
@@ -86,7 +86,7 @@ turn_at b c from n p a s xs (f ∷ ys) l sum dis pl left lies hung out lt low ea
             rest_lies = subst (λ m. Lie d (p + m) ys) (sym ws)
                 (Lie-same c d (p + weight f) (from + n) ys (in_above o4 (omega arith)) (omega arith) lies.3);
             hung = record {
-              hang = Hang-join d from p xs (f ∷ []) pl (Hang-apart c d from f.anchor xs o4 cut.before hung.hang) (e4, tt);
+              anchored = Anchored-join d from p xs (f ∷ []) pl (Anchored-apart c d from f.anchor xs o4 cut.before hung.anchored) (e4, tt);
               others = λ k u v.
                   let r = IsFree-split k xs (f ∷ []) v in
                   apart c d k f.anchor o4 (λ q. r.1.0 (sym q)) ∙ hung.others k u r.0;
@@ -194,7 +194,7 @@ pub shifted : (b c d : List ℕ) (from to n : ℕ) (fs : List Flex) → Carried 
 shifted b c d from to n fs s o t h r l e x = record {
   lie = Lie-same c d to (to + n) fs (in_above h t) (omega arith) (Lie-carried b c from to fs (subst (Carried b c from to) (sym e) s) l);
   hung = record {
-    hang = x.hang;
+    anchored = x.anchored;
     others = λ k u v. x.others k u v ∙ word_same b c (4 * k) (in_below o (omega arith));
   };
 }

@@ -79,7 +79,7 @@ spells_new m n k id o e s =
         heap = s;
         within = omega arith;
         lie = tt;
-        hang = tt;
+        anchored = tt;
         none = λ j u v. word_same (bytes n id) (bytes k id) (4 * j) (in_below e.outside (omega arith)) ∙ ap (λ b. word b (4 * j)) o.bytes_are
             ∙ word-zeros PAGE (4 * j) (omega arith);
         anchors = tt;

@@ -1,8 +1,8 @@
 -- One turn of the walk over a slot's flex blocks, and how it ends.
 use Rattle.rh_slot.proofs.Common.{◌≡◌, ℕ, zero, suc, ◌+◌, ◌-◌, ◌*◌, ◌/◌, ◌<◌, ◌≤◌, Bool, true, false, List, [], ◌∷◌, ◌++◌, length, refl, sym, ap, subst, ◌∙◌}
 use Rattle.rh_slot.proofs.Common.{append_assoc, arith, length-append, take, drop, Some, None, is_some, slice_get, PAGE, word, total, Flex, Slot, weight}
-use Rattle.rh_slot.proofs.Common.{flex_weight, slot_start, slot_length, flex_start, HaveAnchors, anchor_count, Lie, Hang, SlotWords, SpellsSlot, flex_place}
-use Rattle.rh_slot.proofs.Common.{is_block, block_items, BlockItem, Lie-split, Hang-split, HaveAnchors-cut, Walked, row_item, WalksIn, length-take-le}
+use Rattle.rh_slot.proofs.Common.{flex_weight, slot_start, slot_length, flex_start, HaveAnchors, anchor_count, Lie, Anchored, SlotWords, SpellsSlot, flex_place}
+use Rattle.rh_slot.proofs.Common.{is_block, block_items, BlockItem, Lie-split, Anchored-split, HaveAnchors-cut, Walked, row_item, WalksIn, length-take-le}
 use Rattle.rh_defs.specs.Pieces.{first_at, is_inside}
 use Rattle.rh_defs.specs.Inner.NonePassing.{NonePass}
 use Rattle.rh_defs.specs.Slot.{flex_around}
@@ -36,7 +36,7 @@ next_at b s place w f ys k e =
     let is : s.blocks ≡ w.before ++ f ∷ ys = w.is ∙ ap (λ l. w.before ++ l) e in
     let q : flex_place s + total weight w.before ≡ place = sym w.place_is in
     let lie = subst (λ p. Lie b p (f ∷ ys)) q (Lie-split b (flex_place s) w.before (f ∷ ys) (subst (Lie b (flex_place s)) is k.lie)).1 in
-    let hang = subst (λ p. Hang b p (f ∷ ys)) q (Hang-split b (flex_place s) w.before (f ∷ ys) (subst (Hang b (flex_place s)) is k.hang)).1 in
+    let led = subst (λ p. Anchored b p (f ∷ ys)) q (Anchored-split b (flex_place s) w.before (f ∷ ys) (subst (Anchored b (flex_place s)) is k.anchored)).1 in
     let small = (HaveAnchors-cut w.before f ys (subst HaveAnchors is k.anchors)).small in
     record {
       here = f;
@@ -46,7 +46,7 @@ next_at b s place w f ys k e =
       small = small;
       size = lie.1;
       fits = omega (arith, q, ap (total weight) is, total-append weight w.before (f ∷ ys));
-      test = is_block-here b place f ys lie hang small;
+      test = is_block-here b place f ys lie led small;
     }
 
 -- a walk stands at a block or at the end

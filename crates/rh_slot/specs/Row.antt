@@ -3,7 +3,7 @@ use Rattle.std.specs.Prelude.{◌≡◌, ℕ, ◌+◌, ◌*◌, ◌<◌, ◌≤�
 use Rattle.rh_defs.specs.Bytes.{word}
 use Rattle.rh_defs.specs.Pieces.{total}
 use Rattle.rh_defs.specs.Slot.{Flex, Slot, weight, IsFree, HaveAnchors}
-use Rattle.rh_defs.specs.SlotImage.{Lie, Hang, flex_place}
+use Rattle.rh_defs.specs.SlotImage.{Lie, Anchored, flex_place}
 use Rattle.rh_defs.specs.declared.sizes.TheConstants.{ANCHORS, WORD}
 use Rattle.rh_slot.specs.declared.row.FlexWalk.{FlexWalk}
 
@@ -16,7 +16,7 @@ pub record BlockRow (b : List ℕ) (from n : ℕ) : Type 0 where
 
 -- the anchor words of these blocks lead to them, and the other anchor words stay
 pub record Hung (b c : List ℕ) (at : ℕ) (blocks : List Flex) : Type 0 where
-  pub hang : Hang c at blocks
+  pub anchored : Anchored c at blocks
   pub others : (k : ℕ) → k < ANCHORS → IsFree k blocks → word c (WORD * k) ≡ word b (WORD * k)
 
 -- they also lie there

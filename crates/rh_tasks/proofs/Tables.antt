@@ -35,9 +35,9 @@ acknowledged d t p code e last h = rw e h
 -- ---- by action
 
 module _ {d : Desk} {i : ℕ} {t : Task} {p : Parcel} {message : Message} (for : IsFor i t d p message) where
-  came-as : {last : Desk} {outcome : Outcome} {b : Body} → message.body ≡ b → As (delivered d t p b) last outcome
+  delivered-as : {last : Desk} {outcome : Outcome} {b : Body} → message.body ≡ b → As (delivered d t p b) last outcome
       → As (delivered d t p p.message.body) last outcome
-  came-as {last} {outcome} e h = subst (λ b. As (delivered d t p b) last outcome) (sym (ap (λ (x : Message). x.body) for.message_is ∙ e)) h
+  delivered-as {last} {outcome} e h = subst (λ b. As (delivered d t p b) last outcome) (sym (ap (λ (x : Message). x.body) for.message_is ∙ e)) h
 
   back-as : {last : Desk} {outcome : Outcome} {b : Body} → message.body ≡ b → As (bounced_to d t p b) last outcome
       → As (bounced_to d t p p.message.body) last outcome
@@ -98,30 +98,30 @@ module _ {m : Memory} {seats : List Seat} {made : List MadeArea} {files : FileLi
 
   -- ---- messages that came
 
-  pub save-came : {last : Desk} {outcome : Outcome} {file : FileData} {deaf : Bool} {a : Option TakeAction} → message.body ≡ DataSave file
+  pub save-as : {last : Desk} {outcome : Outcome} {file : FileData} {deaf : Bool} {a : Option TakeAction} → message.body ≡ DataSave file
       → deaf ≡ is_deaf s.manner → a ≡ receiver.on_save deaf message.from message.my_ref s.taking → As (perform_take d t a) last outcome
       → As (delivered d t p p.message.body) last outcome
   unfolding delivered task_of
-  save-came e k q h =
-      came-as for e (takes (λ y z. receiver.on_save (is_deaf z.manner) y.from y.my_ref z.taking)
+  save-as e k q h =
+      delivered-as for e (takes (λ y z. receiver.on_save (is_deaf z.manner) y.from y.my_ref z.taking)
       (q ∙ ap (λ b. receiver.on_save b message.from message.my_ref s.taking) k) h)
 
-  pub ack-came : {last : Desk} {outcome : Outcome} {file : FileData} {a : Option SendAction} → message.body ≡ DataSaveAck file
+  pub ack-as : {last : Desk} {outcome : Outcome} {file : FileData} {a : Option SendAction} → message.body ≡ DataSaveAck file
       → a ≡ sender.on_ack message.from message.my_ref message.your_ref s.sending → As (perform_send d t a) last outcome
       → As (delivered d t p p.message.body) last outcome
   unfolding delivered task_of
-  ack-came e q h = came-as for e (sends (λ y z. sender.on_ack y.from y.my_ref y.your_ref z.sending) q h)
+  ack-as e q h = delivered-as for e (sends (λ y z. sender.on_ack y.from y.my_ref y.your_ref z.sending) q h)
 
-  pub load-came : {last : Desk} {outcome : Outcome} {file : FileData} {a : Option TakeAction} → message.body ≡ DataLoad file
+  pub load-as : {last : Desk} {outcome : Outcome} {file : FileData} {a : Option TakeAction} → message.body ≡ DataLoad file
       → a ≡ receiver.on_load message.from message.my_ref message.your_ref s.taking → As (perform_take d t a) last outcome
       → As (delivered d t p p.message.body) last outcome
   unfolding delivered task_of
-  load-came e q h = came-as for e (takes (λ y z. receiver.on_load y.from y.my_ref y.your_ref z.taking) q h)
+  load-as e q h = delivered-as for e (takes (λ y z. receiver.on_load y.from y.my_ref y.your_ref z.taking) q h)
 
-  pub load-ack-came : {last : Desk} {outcome : Outcome} {file : FileData} {a : Option SendAction} → message.body ≡ DataLoadAck file
+  pub load_ack-as : {last : Desk} {outcome : Outcome} {file : FileData} {a : Option SendAction} → message.body ≡ DataLoadAck file
       → a ≡ sender.on_load_ack message.from message.your_ref s.sending → As (perform_send d t a) last outcome → As (delivered d t p p.message.body) last outcome
   unfolding delivered task_of
-  load-ack-came e q h = came-as for e (sends (λ y z. sender.on_load_ack y.from y.your_ref z.sending) q h)
+  load_ack-as e q h = delivered-as for e (sends (λ y z. sender.on_load_ack y.from y.your_ref z.sending) q h)
 
   abbrev fetch_of : ℕ → ℕ → Message → Task → Handled
   fetch_of buffer amount y z =
@@ -133,22 +133,22 @@ module _ {m : Memory} {seats : List Seat} {made : List MadeArea} {files : FileLi
   unfolding delivered task_of
   fetch-ignored {last} {outcome} {buffer} {amount} e q h =
       let ignored_is : fetch_of buffer amount message (task_of m s) ≡ ignored d = rw q refl in
-      came-as for e (subst (λ x. As x last outcome) (sym ignored_is ∙ meant (fetch_of buffer amount)) h)
+      delivered-as for e (subst (λ x. As x last outcome) (sym ignored_is ∙ meant (fetch_of buffer amount)) h)
 
-  pub fetch-came : {last : Desk} {outcome : Outcome} {buffer amount : ℕ} {a : Option SendAction} → message.body ≡ RamFetch buffer amount
+  pub fetch-as : {last : Desk} {outcome : Outcome} {buffer amount : ℕ} {a : Option SendAction} → message.body ≡ RamFetch buffer amount
       → answers_none s.manner ≡ false → a ≡ sender.on_fetch message.from message.my_ref message.your_ref buffer amount s.sending
       → As (perform_send d t a) last outcome → As (delivered d t p p.message.body) last outcome
   unfolding delivered task_of
-  fetch-came {last} {outcome} {buffer} {amount} {a} e n q h =
+  fetch-as {last} {outcome} {buffer} {amount} {a} e n q h =
       let answered_is : fetch_of buffer amount message (task_of m s) ≡ perform_send d t a = rw (n, q) refl in
-      came-as for e (subst (λ x. As x last outcome) (sym answered_is ∙ meant (fetch_of buffer amount)) h)
+      delivered-as for e (subst (λ x. As x last outcome) (sym answered_is ∙ meant (fetch_of buffer amount)) h)
 
-  pub bytes-came : {last : Desk} {outcome : Outcome} {buffer n : ℕ} {a : Option TakeAction} → message.body ≡ RamTransmit buffer n
+  pub bytes-as : {last : Desk} {outcome : Outcome} {buffer n : ℕ} {a : Option TakeAction} → message.body ≡ RamTransmit buffer n
       → a ≡ receiver.on_transmit s.buffer message.from message.my_ref message.your_ref buffer n s.taking
       → As (perform_take d t a) last outcome → As (delivered d t p p.message.body) last outcome
   unfolding delivered task_of
-  bytes-came {buffer = buffer} {n = n} e q h =
-      came-as for e (takes (λ y z. receiver.on_transmit z.buffer y.from y.my_ref y.your_ref buffer n z.taking) q h)
+  bytes-as {buffer = buffer} {n = n} e q h =
+      delivered-as for e (takes (λ y z. receiver.on_transmit z.buffer y.from y.my_ref y.your_ref buffer n z.taking) q h)
 
   -- ---- messages that came back
 

@@ -1,6 +1,6 @@
 use Rattle.rh_tasks.proofs.Common.{sym, refl, reordered-refl}
 use Rattle.rh_tasks.proofs.SeatRecords.{sits-in, can-send-if, can-take-if}
-use Rattle.rh_tasks.proofs.Tables.{save-came, ack-came, load-came, load-ack-came, fetch-ignored, fetch-came, bytes-came}
+use Rattle.rh_tasks.proofs.Tables.{save-as, ack-as, load-as, load_ack-as, fetch-ignored, fetch-as, bytes-as}
 use Rattle.rh_tasks.proofs.world.World.deliver.Goals as goal
 
 pub perform_take-requires-clause-due : goal.perform_take-requires-clause-due
@@ -12,7 +12,7 @@ pub returns-in-DataSave : goal.returns-in-DataSave
 returns-in-DataSave g c = λ t m for.
     let own = rw (← c.self.view_is) at for in
     let h = rw (← c.self.view_is) at c.perform_take.ensures in
-    rw (← c.self.view_is) (save-came c.self.invariant (sym c.index-seat.ensures) own c.in-DataSave.is c.is_deaf.ensures c.on_save-action.ensures.action
+    rw (← c.self.view_is) (save-as c.self.invariant (sym c.index-seat.ensures) own c.in-DataSave.is c.is_deaf.ensures c.on_save-action.ensures.action
     (h t own.at))
 
 pub perform_send-requires-clause-due : goal.perform_send-requires-clause-due
@@ -24,7 +24,7 @@ pub returns-in-DataSaveAck : goal.returns-in-DataSaveAck
 returns-in-DataSaveAck g c = λ t m for.
     let own = rw (← c.self.view_is) at for in
     let h = rw (← c.self.view_is) at c.perform_send.ensures in
-    rw (← c.self.view_is) (ack-came c.self.invariant (sym c.index-seat.ensures) own c.in-DataSaveAck.is c.on_ack-action.ensures.action (h t own.at))
+    rw (← c.self.view_is) (ack-as c.self.invariant (sym c.index-seat.ensures) own c.in-DataSaveAck.is c.on_ack-action.ensures.action (h t own.at))
 
 pub perform_take-requires-in-DataLoad-clause-due : goal.perform_take-requires-in-DataLoad-clause-due
 perform_take-requires-in-DataLoad-clause-due g c =
@@ -35,7 +35,7 @@ pub returns-in-DataLoad : goal.returns-in-DataLoad
 returns-in-DataLoad g c = λ t m for.
     let own = rw (← c.self.view_is) at for in
     let h = rw (← c.self.view_is) at c.perform_take-in-DataLoad.ensures in
-    rw (← c.self.view_is) (load-came c.self.invariant (sym c.index-seat.ensures) own c.in-DataLoad.is c.on_load-action.ensures.action (h t own.at))
+    rw (← c.self.view_is) (load-as c.self.invariant (sym c.index-seat.ensures) own c.in-DataLoad.is c.on_load-action.ensures.action (h t own.at))
 
 pub perform_send-requires-in-DataLoadAck-clause-due : goal.perform_send-requires-in-DataLoadAck-clause-due
 perform_send-requires-in-DataLoadAck-clause-due g c =
@@ -46,7 +46,7 @@ pub returns-in-DataLoadAck : goal.returns-in-DataLoadAck
 returns-in-DataLoadAck g c = λ t m for.
     let own = rw (← c.self.view_is) at for in
     let h = rw (← c.self.view_is) at c.perform_send-in-DataLoadAck.ensures in
-    rw (← c.self.view_is) (load-ack-came c.self.invariant (sym c.index-seat.ensures) own c.in-DataLoadAck.is c.on_load_ack-action.ensures.action (h t own.at))
+    rw (← c.self.view_is) (load_ack-as c.self.invariant (sym c.index-seat.ensures) own c.in-DataLoadAck.is c.on_load_ack-action.ensures.action (h t own.at))
 
 pub perform_send-requires-in-RamFetch-clause-due : goal.perform_send-requires-in-RamFetch-clause-due
 perform_send-requires-in-RamFetch-clause-due g c =
@@ -57,7 +57,7 @@ pub returns-else-answers_none : goal.returns-else-answers_none
 returns-else-answers_none g c = λ t m for.
     let own = rw (← c.self.view_is) at for in
     let h = rw (← c.self.view_is) at c.perform_send-in-RamFetch.ensures in
-    rw (← c.self.view_is) (fetch-came c.self.invariant (sym c.index-seat.ensures) own c.in-RamFetch.is
+    rw (← c.self.view_is) (fetch-as c.self.invariant (sym c.index-seat.ensures) own c.in-RamFetch.is
     (sym c.if-answers_none.ensures) c.on_fetch-action.ensures.action (h t own.at))
 
 pub perform_take-requires-in-RamTransmit-clause-due : goal.perform_take-requires-in-RamTransmit-clause-due
@@ -69,7 +69,7 @@ pub returns-in-RamTransmit : goal.returns-in-RamTransmit
 returns-in-RamTransmit g c = λ t m for.
     let own = rw (← c.self.view_is) at for in
     let h = rw (← c.self.view_is) at c.perform_take-in-RamTransmit.ensures in
-    rw (← c.self.view_is) (bytes-came c.self.invariant (sym c.index-seat.ensures) own c.in-RamTransmit.is c.on_transmit-action.ensures.action (h t own.at))
+    rw (← c.self.view_is) (bytes-as c.self.invariant (sym c.index-seat.ensures) own c.in-RamTransmit.is c.on_transmit-action.ensures.action (h t own.at))
 
 pub returns-then-answers_none : goal.returns-then-answers_none
 returns-then-answers_none g c = λ t m for.
