@@ -563,11 +563,13 @@ class Desk:
     """
 
     def __init__(self, pages=64, files=None, first_handle=1, first_ref=1):
-        self._desk, self._pages, self._files = _Desk(), pages, files or {}
+        self._desk, self._pages = _Desk(), pages
+        # The desk reads the bytes of its files where they lie: this object keeps them.
+        self._files = {name: _text(data)[0] for name, data in (files or {}).items()}
         # The words of all commands so far, of which the picture is drawn: the program begins with handle and ref 1.
         self._done = [] if (first_handle, first_ref) == (1, 1) else None
         for name, data in self._files.items():
-            self._do("file", *_text(name), *_text(data))
+            self._do("file_lent", *_text(name), *_text(data))
         self._do("open", pages, first_handle, first_ref)
 
     def __enter__(self):
@@ -615,7 +617,7 @@ class Desk:
             words = []
             for number, (name, data) in enumerate(self._files.items()):
                 with open(os.path.join(folder, str(number)), "wb") as it:
-                    it.write(_text(data)[0])
+                    it.write(data)
                 words.append(f"{name}={it.name}")
             made = [program, "draw", "--marked", "--pages", str(self._pages), "-", *words]
             sheet = subprocess.run(made, input=script.encode(), capture_output=True, check=False).stdout.decode()
