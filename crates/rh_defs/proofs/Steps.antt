@@ -33,7 +33,7 @@ use Rattle.rh_defs.specs.Order.{SameForEach, with_queue, IsReordered, StepsAlike
 use Rattle.rh_defs.proofs.Follows.{Follows, follows-same, follows-then, follows-less, or_else-follows, chosen-both}
 use Rattle.rh_defs.proofs.Orders.{post_poll-alike, post_death-alike}
 use Rattle.rh_defs.proofs.QuestionLaws.{asked-requeued}
-use Rattle.rh_defs.proofs.OrderSteps.{Alike, SaidAlike, follows-desk, send_letter-alike, delivered-alike, polled-alike, killed-alike, own_block-same}
+use Rattle.rh_defs.proofs.OrderSteps.{Alike, SaidAlike, follows-desk, send_letter-alike, with_delivered-alike, polled-alike, killed-alike, own_block-same}
 use Rattle.rh_defs.proofs.Changes.{IsOnMemory, Changed, in_areas, in_made, in_module, in_nothing, IsAnswer, answer-is, Does, anything, known-step, step-then}
 use Rattle.rh_defs.proofs.Changes.{equal-step, past, otherwise, done, in-slot, in-module}
 
@@ -289,7 +289,7 @@ module _ (d : Desk) (queue : List Parcel) (same : SameForEach d.post.queued queu
       otherwise _ queue same refl
       (λ run. with_new_task-keeps d _ refl (leb-false _ _ few) (leb-false _ _ more) (fits run).0 (fits run).1 run.desk) (λ on. on)
   does (command.Kill name) = record {
-    alike = follows-same _ _ _ λ t. Follows.both (killed-alike _ _ refl (delivered-alike d queue (post_death-alike t.handle d.post queue same)));
+    alike = follows-same _ _ _ λ t. Follows.both (killed-alike _ _ refl (with_delivered-alike d queue (post_death-alike t.handle d.post queue same)));
     keeps = λ run. kill-keeps d name run.desk;
     changes = λ on. absurd on;
   }
