@@ -1,4 +1,4 @@
-//! The same rows about a heap in bytes that are lent.
+//! Rows about a heap in bytes that are lent: the calls of heaps.rt, each on those bytes.
 
 ghost use Rattle.std.specs.Prelude.{vec_items, IfSome};
 ghost use Rattle.rh_lent_heap.specs.Heaps.{IsHeapBytes};

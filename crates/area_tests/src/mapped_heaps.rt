@@ -1,4 +1,4 @@
-//! The same rows about a heap with a map of where its segments begin, by which blocks are found.
+//! Rows about a heap with a map of where its segments begin, by which its blocks are found: the calls of heaps.rt.
 
 ghost use Rattle.std.specs.Prelude.{◌≡◌, length};
 ghost use Rattle.rh_heap.specs.HeapSpans.{IsSpan, heap_in};

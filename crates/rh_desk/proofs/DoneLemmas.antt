@@ -107,15 +107,15 @@ pub run-over : (d : Desk) (s : Streams) (outcome : Result Status RunFault) → I
     → (IsErrOf outcome TooLong → (s.after.reads ≡ MOST_READS) × (s.after.failed ≡ s.before.failed))
     → (IsErrOf outcome TooLong → Answered d s.before s.after s.old s.new)
     → (IsErrOf outcome WriteFailed → BrokeOff d s.before s.old s.new)
-    → ((status : Status) → outcome ≡ Ok status → s.told ≡ s.quiet)
-    → ((fault : RunFault) → outcome ≡ Err fault → Tells s.quiet s.told (run_fault_text fault))
+    → ((status : Status) → outcome ≡ Ok status → s.errors_new ≡ s.errors_old)
+    → ((fault : RunFault) → outcome ≡ Err fault → Tells s.errors_old s.errors_new (run_fault_text fault))
     → RunOver d s (ending_of outcome)
-run-over d s (Ok status.Clean) ok memory read answered long so_far broke quiet told = (ok, quiet status.Clean refl)
-run-over d s (Ok status.BadLines) ok memory read answered long so_far broke quiet told = (ok, quiet status.BadLines refl)
-run-over d s (Err NoMemory) ok memory read answered long so_far broke quiet told = (NoMemory, memory refl, told NoMemory refl)
-run-over d s (Err ReadFailed) ok memory read answered long so_far broke quiet told = (ReadFailed, (read refl, answered refl), told ReadFailed refl)
-run-over d s (Err TooLong) ok memory read answered long so_far broke quiet told = (TooLong, ((long refl).0, (long refl).1, so_far refl), told TooLong refl)
-run-over d s (Err WriteFailed) ok memory read answered long so_far broke quiet told = (WriteFailed, broke refl, told WriteFailed refl)
+run-over d s (Ok status.Clean) ok memory read answered long so_far broke quiet errors = (ok, quiet status.Clean refl)
+run-over d s (Ok status.BadLines) ok memory read answered long so_far broke quiet errors = (ok, quiet status.BadLines refl)
+run-over d s (Err NoMemory) ok memory read answered long so_far broke quiet errors = (NoMemory, memory refl, errors NoMemory refl)
+run-over d s (Err ReadFailed) ok memory read answered long so_far broke quiet errors = (ReadFailed, (read refl, answered refl), errors ReadFailed refl)
+run-over d s (Err TooLong) ok memory read answered long so_far broke quiet errors = (TooLong, ((long refl).0, (long refl).1, so_far refl), errors TooLong refl)
+run-over d s (Err WriteFailed) ok memory read answered long so_far broke quiet errors = (WriteFailed, broke refl, errors WriteFailed refl)
 
 -- how explanations end the program
 pub explain-over : (d : Desk) (s : Streams) (outcome : Result Status RunFault)
@@ -126,16 +126,16 @@ pub explain-over : (d : Desk) (s : Streams) (outcome : Result Status RunFault)
     → (IsErrOf outcome TooLong → (s.after.reads ≡ MOST_READS) × (s.after.failed ≡ s.before.failed))
     → (IsErrOf outcome TooLong → ExplainedSoFar d s.before s.after s.old s.new)
     → (IsErrOf outcome WriteFailed → ExplainedUntil d s.before s.old s.new)
-    → ((status : Status) → outcome ≡ Ok status → s.told ≡ s.quiet)
-    → ((fault : RunFault) → outcome ≡ Err fault → Tells s.quiet s.told (run_fault_text fault))
+    → ((status : Status) → outcome ≡ Ok status → s.errors_new ≡ s.errors_old)
+    → ((fault : RunFault) → outcome ≡ Err fault → Tells s.errors_old s.errors_new (run_fault_text fault))
     → ExplainOver d s (ending_of outcome)
-explain-over d s (Ok status.Clean) ok memory read explained long so_far broke quiet told = (ok, quiet status.Clean refl)
-explain-over d s (Ok status.BadLines) ok memory read explained long so_far broke quiet told = (ok, quiet status.BadLines refl)
-explain-over d s (Err NoMemory) ok memory read explained long so_far broke quiet told = (NoMemory, memory refl, told NoMemory refl)
-explain-over d s (Err ReadFailed) ok memory read explained long so_far broke quiet told = (ReadFailed, (read refl, explained refl), told ReadFailed refl)
-explain-over d s (Err TooLong) ok memory read explained long so_far broke quiet told =
-    (TooLong, ((long refl).0, (long refl).1, so_far refl), told TooLong refl)
-explain-over d s (Err WriteFailed) ok memory read explained long so_far broke quiet told = (WriteFailed, broke refl, told WriteFailed refl)
+explain-over d s (Ok status.Clean) ok memory read explained long so_far broke quiet errors = (ok, quiet status.Clean refl)
+explain-over d s (Ok status.BadLines) ok memory read explained long so_far broke quiet errors = (ok, quiet status.BadLines refl)
+explain-over d s (Err NoMemory) ok memory read explained long so_far broke quiet errors = (NoMemory, memory refl, errors NoMemory refl)
+explain-over d s (Err ReadFailed) ok memory read explained long so_far broke quiet errors = (ReadFailed, (read refl, explained refl), errors ReadFailed refl)
+explain-over d s (Err TooLong) ok memory read explained long so_far broke quiet errors =
+    (TooLong, ((long refl).0, (long refl).1, so_far refl), errors TooLong refl)
+explain-over d s (Err WriteFailed) ok memory read explained long so_far broke quiet errors = (WriteFailed, broke refl, errors WriteFailed refl)
 
 -- how a map ends the program
 pub map-over : (marked : Bool) (d : Desk) (s : Streams) (outcome : Result Status RunFault)
@@ -146,15 +146,16 @@ pub map-over : (marked : Bool) (d : Desk) (s : Streams) (outcome : Result Status
     → (IsErrOf outcome TooLong → (s.after.reads ≡ MOST_READS) × (s.after.failed ≡ s.before.failed))
     → (IsErrOf outcome TooLong → MappedSoFar marked (place d 0 false) s.before s.after s.old s.new)
     → (IsErrOf outcome WriteFailed → MappedUntil marked (place d 0 false) s.before s.after s.old s.new)
-    → ((status : Status) → outcome ≡ Ok status → s.told ≡ s.quiet)
-    → ((fault : RunFault) → outcome ≡ Err fault → Tells s.quiet s.told (run_fault_text fault))
+    → ((status : Status) → outcome ≡ Ok status → s.errors_new ≡ s.errors_old)
+    → ((fault : RunFault) → outcome ≡ Err fault → Tells s.errors_old s.errors_new (run_fault_text fault))
     → MapOver marked d s (ending_of outcome)
-map-over marked d s (Ok status.Clean) ok memory read mapped long so_far broke quiet told = (ok, quiet status.Clean refl)
-map-over marked d s (Ok status.BadLines) ok memory read mapped long so_far broke quiet told = (ok, quiet status.BadLines refl)
-map-over marked d s (Err NoMemory) ok memory read mapped long so_far broke quiet told = (NoMemory, memory refl, told NoMemory refl)
-map-over marked d s (Err ReadFailed) ok memory read mapped long so_far broke quiet told = (ReadFailed, (read refl, mapped refl), told ReadFailed refl)
-map-over marked d s (Err TooLong) ok memory read mapped long so_far broke quiet told = (TooLong, ((long refl).0, (long refl).1, so_far refl), told TooLong refl)
-map-over marked d s (Err WriteFailed) ok memory read mapped long so_far broke quiet told = (WriteFailed, broke refl, told WriteFailed refl)
+map-over marked d s (Ok status.Clean) ok memory read mapped long so_far broke quiet errors = (ok, quiet status.Clean refl)
+map-over marked d s (Ok status.BadLines) ok memory read mapped long so_far broke quiet errors = (ok, quiet status.BadLines refl)
+map-over marked d s (Err NoMemory) ok memory read mapped long so_far broke quiet errors = (NoMemory, memory refl, errors NoMemory refl)
+map-over marked d s (Err ReadFailed) ok memory read mapped long so_far broke quiet errors = (ReadFailed, (read refl, mapped refl), errors ReadFailed refl)
+map-over marked d s (Err TooLong) ok memory read mapped long so_far broke quiet errors =
+    (TooLong, ((long refl).0, (long refl).1, so_far refl), errors TooLong refl)
+map-over marked d s (Err WriteFailed) ok memory read mapped long so_far broke quiet errors = (WriteFailed, broke refl, errors WriteFailed refl)
 
 -- how a sheet ends the program
 pub sheet-over : (marked : Bool) (name : List ℕ) (d : Desk) (s : Streams) (outcome : Result Status RunFault)
@@ -165,43 +166,45 @@ pub sheet-over : (marked : Bool) (name : List ℕ) (d : Desk) (s : Streams) (out
     → (IsErrOf outcome TooLong → (s.after.reads ≡ MOST_READS) × (s.after.failed ≡ s.before.failed))
     → (IsErrOf outcome TooLong → PaintedSoFar marked name d s.before s.after s.old s.new)
     → (IsErrOf outcome WriteFailed → PaintedUntil marked name d s.before s.after s.old s.new)
-    → ((status : Status) → outcome ≡ Ok status → s.told ≡ s.quiet)
-    → ((fault : RunFault) → outcome ≡ Err fault → Tells s.quiet s.told (run_fault_text fault))
+    → ((status : Status) → outcome ≡ Ok status → s.errors_new ≡ s.errors_old)
+    → ((fault : RunFault) → outcome ≡ Err fault → Tells s.errors_old s.errors_new (run_fault_text fault))
     → SheetOver marked name d s (ending_of outcome)
-sheet-over marked name d s (Ok status.Clean) ok memory read painted long so_far broke quiet told = (ok, quiet status.Clean refl)
-sheet-over marked name d s (Ok status.BadLines) ok memory read painted long so_far broke quiet told = (ok, quiet status.BadLines refl)
-sheet-over marked name d s (Err NoMemory) ok memory read painted long so_far broke quiet told = (NoMemory, memory refl, told NoMemory refl)
-sheet-over marked name d s (Err ReadFailed) ok memory read painted long so_far broke quiet told = (ReadFailed, (read refl, painted refl), told ReadFailed refl)
-sheet-over marked name d s (Err TooLong) ok memory read painted long so_far broke quiet told =
-    (TooLong, ((long refl).0, (long refl).1, so_far refl), told TooLong refl)
-sheet-over marked name d s (Err WriteFailed) ok memory read painted long so_far broke quiet told = (WriteFailed, broke refl, told WriteFailed refl)
+sheet-over marked name d s (Ok status.Clean) ok memory read painted long so_far broke quiet errors = (ok, quiet status.Clean refl)
+sheet-over marked name d s (Ok status.BadLines) ok memory read painted long so_far broke quiet errors = (ok, quiet status.BadLines refl)
+sheet-over marked name d s (Err NoMemory) ok memory read painted long so_far broke quiet errors = (NoMemory, memory refl, errors NoMemory refl)
+sheet-over marked name d s (Err ReadFailed) ok memory read painted long so_far broke quiet errors =
+    (ReadFailed, (read refl, painted refl), errors ReadFailed refl)
+sheet-over marked name d s (Err TooLong) ok memory read painted long so_far broke quiet errors =
+    (TooLong, ((long refl).0, (long refl).1, so_far refl), errors TooLong refl)
+sheet-over marked name d s (Err WriteFailed) ok memory read painted long so_far broke quiet errors = (WriteFailed, broke refl, errors WriteFailed refl)
 
 check-ends : (k : ImageKind) (bytes : List ℕ) (s : Streams) (outcome : Result Status RunFault)
     → IfOk outcome (λ status. Takes s.old s.new (line_as k bytes))
     → IfOk outcome (λ status. status ≡ status_as k bytes)
     → IfErr outcome (λ fault. (fault ≡ WriteFailed) × Breaks s.old s.new (line_as k bytes))
-    → ((status : Status) → outcome ≡ Ok status → s.told ≡ s.quiet)
-    → ((fault : RunFault) → outcome ≡ Err fault → Tells s.quiet s.told (run_fault_text fault))
+    → ((status : Status) → outcome ≡ Ok status → s.errors_new ≡ s.errors_old)
+    → ((fault : RunFault) → outcome ≡ Err fault → Tells s.errors_old s.errors_new (run_fault_text fault))
     → CheckOver k bytes s (ending_of outcome)
-check-ends k bytes s (Ok status.Clean) takes is broke quiet told = (sym is, takes, quiet status.Clean refl)
-check-ends k bytes s (Ok status.BadLines) takes is broke quiet told = (sym is, takes, quiet status.BadLines refl)
-check-ends k bytes s (Err fault) takes is broke quiet told = (broke.1, subst (λ f. Tells s.quiet s.told (run_fault_text f)) broke.0 (told fault refl))
+check-ends k bytes s (Ok status.Clean) takes is broke quiet errors = (sym is, takes, quiet status.Clean refl)
+check-ends k bytes s (Ok status.BadLines) takes is broke quiet errors = (sym is, takes, quiet status.BadLines refl)
+check-ends k bytes s (Err fault) takes is broke quiet errors =
+    (broke.1, subst (λ f. Tells s.errors_old s.errors_new (run_fault_text f)) broke.0 (errors fault refl))
 
 -- how a check of bytes ends the program
 pub check-over : (k : ImageKind) (image bytes : List ℕ) (s : Streams) (outcome : Result Status RunFault) → image ≡ bytes
     → IfOk outcome (λ status. Takes s.old s.new (line_as k image))
     → IfOk outcome (λ status. status ≡ status_as k image)
     → IfErr outcome (λ fault. (fault ≡ WriteFailed) × Breaks s.old s.new (line_as k image))
-    → ((status : Status) → outcome ≡ Ok status → s.told ≡ s.quiet)
-    → ((fault : RunFault) → outcome ≡ Err fault → Tells s.quiet s.told (run_fault_text fault))
+    → ((status : Status) → outcome ≡ Ok status → s.errors_new ≡ s.errors_old)
+    → ((fault : RunFault) → outcome ≡ Err fault → Tells s.errors_old s.errors_new (run_fault_text fault))
     → CheckOver k bytes s (ending_of outcome)
-check-over k image bytes s outcome same takes is broke quiet told =
-    subst (λ b. CheckOver k b s (ending_of outcome)) same (check-ends k image s outcome takes is broke quiet told)
+check-over k image bytes s outcome same takes is broke quiet errors =
+    subst (λ b. CheckOver k b s (ending_of outcome)) same (check-ends k image s outcome takes is broke quiet errors)
 
 -- what stops a run before its script
 pub files-fail : {F : Type 0} (remaining : F → Option (List ℕ)) (shown : Shown) (pages : ℕ) (script : List ℕ) (words : List (List ℕ)) (s : Streams)
     (ending : ProgramEnd)
-    → AreGood words → Untouched s → TellsBadFile remaining s.quiet s.told words ending → RunEnds remaining shown pages script words s ending
+    → AreGood words → Untouched s → TellsBadFile remaining s.errors_old s.errors_new words ending → RunEnds remaining shown pages script words s ending
 files-fail remaining shown pages script words s ending good still (inl bad) = inr (still, inl bad)
 files-fail remaining shown pages script words s ending good still (inr lost) = inr (still, inr (good, lost))
 
@@ -220,19 +223,19 @@ script-over remaining shown pages script ws files s ending good named whole from
     inl (record { files = files; good = good; named = named ∙ names-of ws; whole = whole; from_input = from_input; from_file = from_file })
 
 abbrev noted : {F : Type 0} → (F → Option (List ℕ)) → F → Bool → ℕ → Input → Output → Streams → Streams
-noted remaining inner failed reads rest told s =
-    record s { before = record { left = remaining inner; failed = failed; reads = reads }; after = rest; told = told }
+noted remaining inner failed reads rest errors s =
+    record s { before = record { left = remaining inner; failed = failed; reads = reads }; after = rest; errors_new = errors }
 
 -- a file of which nothing is noted yet
 pub file-over : {F : Type 0} (remaining : F → Option (List ℕ)) (shown : Shown) (d : Desk) (path : List ℕ) (s : Streams) (ending : ProgramEnd) (file inner : F)
-    (failed : Bool) (reads : ℕ) (rest : Input) (told : Output)
-    → inner ≡ file → failed ≡ false → reads ≡ 0 → s.after ≡ s.before → TellsFolder told s.told ending
-    → ShownOver shown path d (noted remaining inner failed reads rest told s) ending
+    (failed : Bool) (reads : ℕ) (rest : Input) (errors : Output)
+    → inner ≡ file → failed ≡ false → reads ≡ 0 → s.after ≡ s.before → TellsFolder errors s.errors_new ending
+    → ShownOver shown path d (noted remaining inner failed reads rest errors s) ending
     → FileOver remaining shown d path s ending
-file-over remaining shown d path s ending file inner failed reads rest told of well none same folder over =
-    let counted = subst (λ n. ShownOver shown path d (noted remaining inner failed n rest told s) ending) none over in
-    let flagged = subst (λ b. ShownOver shown path d (noted remaining inner b 0 rest told s) ending) well counted in
-    inl (same, (file, rest, told, subst (λ f. ShownOver shown path d (noted remaining f false 0 rest told s) ending) of flagged, folder))
+file-over remaining shown d path s ending file inner failed reads rest errors of well none same folder over =
+    let counted = subst (λ n. ShownOver shown path d (noted remaining inner failed n rest errors s) ending) none over in
+    let flagged = subst (λ b. ShownOver shown path d (noted remaining inner b 0 rest errors s) ending) well counted in
+    inl (same, (file, rest, errors, subst (λ f. ShownOver shown path d (noted remaining f false 0 rest errors s) ending) of flagged, folder))
 
 -- the words are `clap`'s, and ask for this
 pub words-ask : {F : Type 0} (remaining : F → Option (List ℕ)) (words : List (List ℕ)) (found : Option (Text × List Row)) (request : Request) (s : Streams)

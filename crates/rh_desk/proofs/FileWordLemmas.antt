@@ -134,9 +134,9 @@ pub lost-file : {F : Type 0} (remaining : F → Option (List ℕ)) (old new : Ou
     → Some (name, path) ≡ file_word (get_or ws i d).now → ending ≡ Fault
     → TellsLoss remaining old new path ⊎ Tells old new (run_fault_text NoMemory)
     → TellsBadFile remaining old new (texts ws) ending
-lost-file remaining old new ws i d name path ending inside found fault (inl told) =
-    inr ((get_or ws i d).now, fault, word-in ws i d inside, subst (λ p. TellsLoss remaining old new p) (found-is (get_or ws i d).now name path found).2 told)
-lost-file remaining old new ws i d name path ending inside found fault (inr told) = inl (inl (fault, told))
+lost-file remaining old new ws i d name path ending inside found fault (inl errors) =
+    inr ((get_or ws i d).now, fault, word-in ws i d inside, subst (λ p. TellsLoss remaining old new p) (found-is (get_or ws i d).now name path found).2 errors)
+lost-file remaining old new ws i d name path ending inside found fault (inr errors) = inl (inl (fault, errors))
 
 -- past the last word all are good
 pub all-good : (ws : List (Bor (List ℕ))) (i : ℕ) → length ws ≤ i → AreGood (take i (texts ws)) → AreGood (texts ws)

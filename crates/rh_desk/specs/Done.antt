@@ -45,12 +45,12 @@ pub record Streams : Type 0 where
   pub after : Input
   pub old : Output
   pub new : Output
-  pub quiet : Output
-  pub told : Output
+  pub errors_old : Output
+  pub errors_new : Output
 
 abbrev pub streams : Input → Input → Output → Output → Output → Output → Streams
-streams before after old new quiet told =
-    record { before = before; after = after; old = old; new = new; quiet = quiet; told = told }
+streams before after old new errors_old errors_new =
+    record { before = before; after = after; old = old; new = new; errors_old = errors_old; errors_new = errors_new }
 
 -- nothing was read of the input, or written
 abbrev pub Untouched : Streams → Type 0
@@ -70,10 +70,10 @@ Stopped d s WriteFailed = BrokeOff d s.before s.old s.new
 
 -- how a run over a desk ends: all read and written and nothing told, or stopped by the fault that is told
 abbrev pub RunOver : Desk → Streams → ProgramEnd → Type 0
-RunOver d s Clean = Finished d s.before s.after s.old s.new status.Clean × (s.told ≡ s.quiet)
-RunOver d s BadLines = Finished d s.before s.after s.old s.new status.BadLines × (s.told ≡ s.quiet)
+RunOver d s Clean = Finished d s.before s.after s.old s.new status.Clean × (s.errors_new ≡ s.errors_old)
+RunOver d s BadLines = Finished d s.before s.after s.old s.new status.BadLines × (s.errors_new ≡ s.errors_old)
 RunOver d s WrongWords = ⊥
-RunOver d s Fault = (fault : RunFault) × Stopped d s fault × Tells s.quiet s.told (run_fault_text fault)
+RunOver d s Fault = (fault : RunFault) × Stopped d s fault × Tells s.errors_old s.errors_new (run_fault_text fault)
 
 -- what was read and written where a fault stopped a map, of which marked steps alone may be shown
 abbrev pub MapStopped : Bool → Desk → Streams → RunFault → Type 0
@@ -88,11 +88,11 @@ MapStopped marked d s WriteFailed = MappedUntil marked (place d 0 false) s.befor
 -- how a map of a script over a desk ends, as a run does
 abbrev pub MapOver : Bool → Desk → Streams → ProgramEnd → Type 0
 MapOver marked d s Clean =
-    Mapped marked (place d 0 false) s.before s.after s.old s.new status.Clean × (s.told ≡ s.quiet)
+    Mapped marked (place d 0 false) s.before s.after s.old s.new status.Clean × (s.errors_new ≡ s.errors_old)
 MapOver marked d s BadLines =
-    Mapped marked (place d 0 false) s.before s.after s.old s.new status.BadLines × (s.told ≡ s.quiet)
+    Mapped marked (place d 0 false) s.before s.after s.old s.new status.BadLines × (s.errors_new ≡ s.errors_old)
 MapOver marked d s WrongWords = ⊥
-MapOver marked d s Fault = (fault : RunFault) × MapStopped marked d s fault × Tells s.quiet s.told (run_fault_text fault)
+MapOver marked d s Fault = (fault : RunFault) × MapStopped marked d s fault × Tells s.errors_old s.errors_new (run_fault_text fault)
 
 -- what was read and written where a fault stopped a sheet with a name, of which marked steps alone may be shown
 abbrev pub SheetStopped : Bool → List ℕ → Desk → Streams → RunFault → Type 0
@@ -107,12 +107,12 @@ SheetStopped marked name d s WriteFailed = PaintedUntil marked name d s.before s
 -- how a sheet of a script over a desk ends, as a run does
 abbrev pub SheetOver : Bool → List ℕ → Desk → Streams → ProgramEnd → Type 0
 SheetOver marked name d s Clean =
-    Painted marked name d s.before s.after s.old s.new status.Clean × (s.told ≡ s.quiet)
+    Painted marked name d s.before s.after s.old s.new status.Clean × (s.errors_new ≡ s.errors_old)
 SheetOver marked name d s BadLines =
-    Painted marked name d s.before s.after s.old s.new status.BadLines × (s.told ≡ s.quiet)
+    Painted marked name d s.before s.after s.old s.new status.BadLines × (s.errors_new ≡ s.errors_old)
 SheetOver marked name d s WrongWords = ⊥
 SheetOver marked name d s Fault =
-    (fault : RunFault) × SheetStopped marked name d s fault × Tells s.quiet s.told (run_fault_text fault)
+    (fault : RunFault) × SheetStopped marked name d s fault × Tells s.errors_old s.errors_new (run_fault_text fault)
 
 -- what was read and written where a fault stopped explanations
 abbrev pub ExplainStopped : Desk → Streams → RunFault → Type 0
@@ -124,10 +124,10 @@ ExplainStopped d s WriteFailed = ExplainedUntil d s.before s.old s.new
 
 -- how the explanations of a script over a desk end, as a run does
 abbrev pub ExplainOver : Desk → Streams → ProgramEnd → Type 0
-ExplainOver d s Clean = Explained d s.before s.after s.old s.new status.Clean × (s.told ≡ s.quiet)
-ExplainOver d s BadLines = Explained d s.before s.after s.old s.new status.BadLines × (s.told ≡ s.quiet)
+ExplainOver d s Clean = Explained d s.before s.after s.old s.new status.Clean × (s.errors_new ≡ s.errors_old)
+ExplainOver d s BadLines = Explained d s.before s.after s.old s.new status.BadLines × (s.errors_new ≡ s.errors_old)
 ExplainOver d s WrongWords = ⊥
-ExplainOver d s Fault = (fault : RunFault) × ExplainStopped d s fault × Tells s.quiet s.told (run_fault_text fault)
+ExplainOver d s Fault = (fault : RunFault) × ExplainStopped d s fault × Tells s.errors_old s.errors_new (run_fault_text fault)
 
 -- the name that a sheet has: the last part of its script's path, and words for the input
 abbrev pub sheet_name : List ℕ → List ℕ
@@ -148,11 +148,11 @@ instead left rest s = record s { before = record { left = left; failed = false; 
 -- lost file, or want of memory, is told
 abbrev pub FileOver : {F : Type 0} → (F → Option (List ℕ)) → Shown → Desk → List ℕ → Streams → ProgramEnd → Type 0
 FileOver {F} remaining shown d path s ending =
-    ((s.after ≡ s.before) × ((file : F) × (rest : Input) × (told : Output)
-    × ShownOver shown path d (record (instead (remaining file) rest s) { told = told }) ending
-    × TellsFolder told s.told ending))
+    ((s.after ≡ s.before) × ((file : F) × (rest : Input) × (errors : Output)
+    × ShownOver shown path d (record (instead (remaining file) rest s) { errors_new = errors }) ending
+    × TellsFolder errors s.errors_new ending))
     ⊎ (Untouched s × (ending ≡ Fault)
-    × (TellsLoss remaining s.quiet s.told path ⊎ Tells s.quiet s.told (run_fault_text NoMemory)))
+    × (TellsLoss remaining s.errors_old s.errors_new path ⊎ Tells s.errors_old s.errors_new (run_fault_text NoMemory)))
 
 -- how a script over good words and their files ends: `-` is the input, and all else a file's path
 pub record ScriptOver {F : Type 0} (remaining : F → Option (List ℕ)) (shown : Shown) (pages : ℕ) (script : List ℕ) (words : List (List ℕ)) (s : Streams) (ending : ProgramEnd) : Type 0 where
@@ -169,7 +169,7 @@ abbrev pub RunEnds : {F : Type 0} → (F → Option (List ℕ)) → Shown → �
 RunEnds remaining shown pages script words s ending =
     ScriptOver remaining shown pages script words s ending
     ⊎ (Untouched s
-    × (TellsBadWord s.quiet s.told words ending ⊎ (AreGood words × TellsLostFile remaining s.quiet s.told words ending)))
+    × (TellsBadWord s.errors_old s.errors_new words ending ⊎ (AreGood words × TellsLostFile remaining s.errors_old s.errors_new words ending)))
 
 -- the line of some bytes, taken for a heap or for a slot
 abbrev pub line_as : ImageKind → List ℕ → List ℕ
@@ -184,25 +184,25 @@ status_as Slot bytes = slot_image_status bytes
 -- how a check of some bytes ends: their line is written, and the status is theirs
 abbrev pub CheckOver : ImageKind → List ℕ → Streams → ProgramEnd → Type 0
 CheckOver k bytes s Clean =
-    (status_as k bytes ≡ status.Clean) × Takes s.old s.new (line_as k bytes) × (s.told ≡ s.quiet)
+    (status_as k bytes ≡ status.Clean) × Takes s.old s.new (line_as k bytes) × (s.errors_new ≡ s.errors_old)
 CheckOver k bytes s BadLines =
-    (status_as k bytes ≡ status.BadLines) × Takes s.old s.new (line_as k bytes) × (s.told ≡ s.quiet)
+    (status_as k bytes ≡ status.BadLines) × Takes s.old s.new (line_as k bytes) × (s.errors_new ≡ s.errors_old)
 CheckOver k bytes s WrongWords = ⊥
 CheckOver k bytes s Fault =
-    Breaks s.old s.new (line_as k bytes) × Tells s.quiet s.told (run_fault_text WriteFailed)
+    Breaks s.old s.new (line_as k bytes) × Tells s.errors_old s.errors_new (run_fault_text WriteFailed)
 
 -- how `check` ends: with the line of all bytes of a file, or nothing is written and the lost file, or want of memory, told
 abbrev pub CheckEnds : {F : Type 0} → (F → Option (List ℕ)) → ImageKind → List ℕ → Streams → ProgramEnd → Type 0
 CheckEnds remaining k path s ending =
     ((bytes : List ℕ) × IsWhole remaining bytes × CheckOver k bytes s ending)
     ⊎ ((s.new ≡ s.old) × (ending ≡ Fault)
-    × (TellsLoss remaining s.quiet s.told path ⊎ Tells s.quiet s.told (run_fault_text NoMemory)))
+    × (TellsLoss remaining s.errors_old s.errors_new path ⊎ Tells s.errors_old s.errors_new (run_fault_text NoMemory)))
 
 -- how `check -` ends: with the line of all bytes of the input, or nothing is written and the lost input told
 abbrev pub InputCheckEnds : ImageKind → Streams → ProgramEnd → Type 0
 InputCheckEnds k s ending =
     ((bytes : List ℕ) × IsAllOf s.before s.after bytes × CheckOver k bytes s ending)
-    ⊎ ((s.new ≡ s.old) × (ending ≡ Fault) × TellsLostInput s.before s.after s.quiet s.told)
+    ⊎ ((s.new ≡ s.old) × (ending ≡ Fault) × TellsLostInput s.before s.after s.errors_old s.errors_new)
 
 -- how what is asked for ends
 abbrev pub RequestEnds : {F : Type 0} → (F → Option (List ℕ)) → Request → Streams → ProgramEnd → Type 0
@@ -216,14 +216,14 @@ RequestEnds remaining (Check k file) s ending =
 -- all else is told as a mistake, with what helps
 abbrev pub ErrorEnds : ErrorKind → List (List ℕ) → Streams → ProgramEnd → Type 0
 ErrorEnds k words s Clean =
-    ((k ≡ kind.DisplayHelp) ⊎ (k ≡ kind.DisplayVersion)) × ((text : List ℕ) × Takes s.old s.new text) × (s.told ≡ s.quiet)
+    ((k ≡ kind.DisplayHelp) ⊎ (k ≡ kind.DisplayVersion)) × ((text : List ℕ) × Takes s.old s.new text) × (s.errors_new ≡ s.errors_old)
 ErrorEnds k words s BadLines = ⊥
 ErrorEnds k words s WrongWords =
     (k ≢ kind.DisplayHelp) × (k ≢ kind.DisplayVersion) × (k ≢ kind.OutOfMemory) × (s.new ≡ s.old)
-    × TellsMistake k words s.quiet s.told
+    × TellsMistake k words s.errors_old s.errors_new
 ErrorEnds k words s Fault =
-    (Tells s.quiet s.told (run_fault_text NoMemory) × (s.new ≡ s.old))
-    ⊎ (Tells s.quiet s.told (run_fault_text WriteFailed) × ((text : List ℕ) × Breaks s.old s.new text)
+    (Tells s.errors_old s.errors_new (run_fault_text NoMemory) × (s.new ≡ s.old))
+    ⊎ (Tells s.errors_old s.errors_new (run_fault_text WriteFailed) × ((text : List ℕ) × Breaks s.old s.new text)
     × ((k ≡ kind.DisplayHelp) ⊎ (k ≡ kind.DisplayVersion)))
 
 -- how words end: as what they ask for where `clap` finds no fault in them, or as an error of a kind that it has for
@@ -234,14 +234,14 @@ WordsEnd remaining words s ending =
     × ((request : Request) × AsksFor (subcommand_of program_words words) request × RequestEnds remaining request s ending))
     ⊎ ((s.after ≡ s.before) × ((error : Error) × HasKind (fault_of program_words words) error × ErrorEnds (kind_of error) words s ending))
     ⊎ ((fault_of program_words words ≡ []) × AsksNothing (subcommand_of program_words words)
-    × (ending ≡ WrongWords) × Untouched s × (s.told ≡ s.quiet))
+    × (ending ≡ WrongWords) × Untouched s × (s.errors_new ≡ s.errors_old))
 
 -- how the help of a command of a script ends: it is written, or the writer failed
 abbrev pub HelpEnds : CommandKind → Streams → ProgramEnd → Type 0
-HelpEnds k s Clean = Takes s.old s.new (command_help k) × (s.told ≡ s.quiet)
+HelpEnds k s Clean = Takes s.old s.new (command_help k) × (s.errors_new ≡ s.errors_old)
 HelpEnds k s BadLines = ⊥
 HelpEnds k s WrongWords = ⊥
-HelpEnds k s Fault = Breaks s.old s.new (command_help k) × Tells s.quiet s.told (run_fault_text WriteFailed)
+HelpEnds k s Fault = Breaks s.old s.new (command_help k) × Tells s.errors_old s.errors_new (run_fault_text WriteFailed)
 
 -- how any words end: with the help of a command of a script, where that is asked for, or as the words that are meant
 abbrev pub AnyWordsEnd : {F : Type 0} → (F → Option (List ℕ)) → List (List ℕ) → Streams → ProgramEnd → Type 0

@@ -28,7 +28,7 @@ pub fn check_words<E: Sink>(alloc: Global, words: &[&str], errors: &mut E) -> Re
     ensures status { IfErr result (λ ending. 2 ≤ exit_status ending) }
     ensures good { IfOk result (λ _. AreGood (map (λ word. word.now) words.now)) }
     ensures quiet { IfOk result (λ _. E.output errors.new ≡ E.output errors.old) }
-    ensures told { IfErr result (TellsBadWord (E.output errors.old) (E.output errors.new)
+    ensures errors { IfErr result (TellsBadWord (E.output errors.old) (E.output errors.new)
         (map (λ word. word.now) words.now)) }
 {
     let mut seen = Files::new(alloc);
@@ -59,7 +59,7 @@ pub fn read_files<R: rt::Files, E: Sink>(
     ensures wrong { IfErr result (λ ending. ending ≡ ProgramEnd.WrongWords → (word : List ℕ) × IsFirstBad
         (map (λ word. word.now) words.now) word) }
     ensures quiet { IfOk result (λ _. E.output errors.new ≡ E.output errors.old) }
-    ensures told { IfErr result (TellsBadFile R.File.remaining (E.output errors.old) (E.output errors.new)
+    ensures errors { IfErr result (TellsBadFile R.File.remaining (E.output errors.old) (E.output errors.new)
         (map (λ word. word.now) words.now)) }
 {
     let mut files = Files::new(alloc);
@@ -100,7 +100,7 @@ pub fn read_whole<R: rt::Files, E: Sink>(
     ensures ok { IfOk result (λ bytes. vec_len bytes ≤ LONGEST_FILE) }
     ensures whole { IfOk result (λ bytes. IsWhole R.File.remaining (vec_items bytes)) }
     ensures err { IfErr result (λ ending. ending ≡ ProgramEnd.Fault) }
-    ensures told { IfErr result (λ ending.
+    ensures errors { IfErr result (λ ending.
         TellsLoss R.File.remaining (E.output errors.old) (E.output errors.new) path.now
         ⊎ Tells (E.output errors.old) (E.output errors.new) (run_fault_text RunFault.NoMemory)) }
     ensures quiet { IfOk result (λ _. E.output errors.new ≡ E.output errors.old) }

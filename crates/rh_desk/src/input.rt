@@ -23,7 +23,7 @@ pub fn read_input<I: Source, E: Sink>(
     ensures whole { IfOk result (λ bytes. IsAllOf (I.input input.old) (I.input input.new) (vec_items bytes)) }
     ensures quiet { IfOk result (λ _. E.output errors.new ≡ E.output errors.old) }
     ensures err { IfErr result (λ ending. ending ≡ ProgramEnd.Fault) }
-    ensures told { IfErr result (λ _. TellsLostInput (I.input input.old) (I.input input.new) (E.output errors.old)
+    ensures errors { IfErr result (λ _. TellsLostInput (I.input input.old) (I.input input.new) (E.output errors.old)
         (E.output errors.new)) }
 {
     let mut bytes = Vec::new(alloc);

@@ -29,7 +29,7 @@ const HELD: usize = 600;
 pub fn ended<E: Sink>(outcome: Result<Status, RunFault>, errors: &mut E) -> ProgramEnd
     ensures ending { result ≡ ending_of outcome }
     ensures quiet { (status : Status) → outcome ≡ Ok status → E.output errors.new ≡ E.output errors.old }
-    ensures told { (fault : RunFault) → outcome ≡ Err fault
+    ensures errors { (fault : RunFault) → outcome ≡ Err fault
         → Tells (E.output errors.old) (E.output errors.new) (run_fault_text fault) }
 {
     match outcome {
@@ -70,7 +70,7 @@ pub fn tell_words_error<O: Sink, E: Sink>(
         text }
     ensures mistake { result ≡ ProgramEnd.WrongWords → (kind_of error.now ≢ ErrorKind.DisplayHelp)
         × (kind_of error.now ≢ ErrorKind.DisplayVersion) }
-    ensures told { result ≡ ProgramEnd.WrongWords → TellsMistake (kind_of error.now) (map string_bytes words.now)
+    ensures errors { result ≡ ProgramEnd.WrongWords → TellsMistake (kind_of error.now) (map string_bytes words.now)
         (E.output errors.old) (E.output errors.new) }
     ensures well { exit_status result ≤ 1 → (O.output output.new).failed ≡ (O.output output.old).failed }
     ensures wrong { result ≡ ProgramEnd.WrongWords → O.output output.new ≡ O.output output.old }
@@ -110,7 +110,7 @@ fn tell_mistake<E: Sink>(hint: Option<Hint>, verb: &[u8], text: &[u8], errors: &
 /// Tells of a file that can't be opened, or can't be read whole, and why.
 pub fn tell_file<E: Sink>(path: &str, loss: FileLoss, errors: &mut E) -> ProgramEnd
     ensures ending { result ≡ ProgramEnd.Fault }
-    ensures told { Tells (E.output errors.old) (E.output errors.new) (lost_file_text path.now loss) }
+    ensures errors { Tells (E.output errors.old) (E.output errors.new) (lost_file_text path.now loss) }
 {
     let mut room = [0; HELD];
     let mut pen = WriterPen::new(errors, &mut room);
@@ -149,7 +149,7 @@ fn put_path<P: Pen>(path: &str, pen: &mut P)
 /// Tells of a bad NAME=PATH word, and why.
 pub fn tell_bad_word<E: Sink>(word: &str, errors: &mut E) -> ProgramEnd
     ensures ending { result ≡ ProgramEnd.WrongWords }
-    ensures told { Tells (E.output errors.old) (E.output errors.new) (bad_word_text word.now) }
+    ensures errors { Tells (E.output errors.old) (E.output errors.new) (bad_word_text word.now) }
 {
     let mut room = [0; HELD];
     let mut pen = WriterPen::new(errors, &mut room);

@@ -98,7 +98,7 @@ module _ {D : Type 0} {spells : D → Desk → Type 0} where
   pub skipped_said : (s t : Explainer D) (line : List ℕ) → t ≡ record s { lines = s.lines + 1 } → SaidOfMeaning spells s line (Ok None) t []
   skipped_said s t line same = record {
     desk = λ d h. subst (λ (z : Explainer D). spells z.desktop d) (sym same) h;
-    told = λ d h. refl;
+    said = λ d h. refl;
     lines = ap (λ (z : Explainer D). z.lines) same;
     flag = ap (λ (z : Explainer D). z.has_said) same ∙ sym (or_false s.has_said);
   }
@@ -108,7 +108,7 @@ module _ {D : Type 0} {spells : D → Desk → Type 0} where
       → SaidOfMeaning spells s line (Err fault) t (bad_line (s.lines + 1) line fault)
   bad_said s t line fault same = record {
     desk = λ d h. subst (λ (z : Explainer D). spells z.desktop d) (sym same) h;
-    told = λ d h. refl;
+    said = λ d h. refl;
     lines = ap (λ (z : Explainer D). z.lines) same;
     flag = ap (λ (z : Explainer D). z.has_said) same
         ∙ sym (ap (λ z. s.has_said || z) (bad_line_said (s.lines + 1) line fault) ∙ or_true s.has_said);
@@ -127,7 +127,7 @@ some_rest n (b ∷ bs) fault h is = ap (bad_line n (b ∷ bs)) is
 
 pub nothing_said : {D : Type 0} (s : Explainer D) (k rest : List ℕ) → k ≡ rest → (length k == 0) ≡ true → SaidOfRest s rest s []
 nothing_said s k rest same h = record {
-  told = no_rest (s.lines + 1) k h ∙ ap (said_of_rest (s.lines + 1)) same;
+  said = no_rest (s.lines + 1) k h ∙ ap (said_of_rest (s.lines + 1)) same;
   flag = sym (or_false s.has_said);
 }
 
@@ -135,7 +135,7 @@ pub cut_said : {D : Type 0} (s t : Explainer D) (k rest : List ℕ) (fault : Lin
     → fault ≡ (if nat_lt LONGEST_LINE (length k) then TooLong else Unended) → t ≡ record s { lines = s.lines + 1; has_said = true }
     → SaidOfRest s rest t (bad_line (s.lines + 1) k fault)
 cut_said {D} s t k rest fault same h is next = record {
-  told = some_rest (s.lines + 1) k fault h is ∙ ap (said_of_rest (s.lines + 1)) same;
+  said = some_rest (s.lines + 1) k fault h is ∙ ap (said_of_rest (s.lines + 1)) same;
   flag = ap (λ (z : Explainer D). z.has_said) next
       ∙ sym (ap (λ z. s.has_said || z) (bad_line_said (s.lines + 1) k fault) ∙ or_true s.has_said);
 }
@@ -145,7 +145,7 @@ cut_said {D} s t k rest fault same h is next = record {
 -- an explainer that has taken these lines from a desk on
 record AllSaid {D : Type 0} (spells : D → Desk → Type 0) (d : Desk) (s : Explainer D) (lines : List (List ℕ)) (t : Explainer D) (text : List ℕ) : Type 0 where
   desk : spells t.desktop (lines_desk d lines)
-  told : text ≡ said_of_lines d s.lines lines
+  said : text ≡ said_of_lines d s.lines lines
   counted : t.lines ≡ s.lines + length lines
   flag : t.has_said ≡ (s.has_said || is_said text)
 
@@ -153,7 +153,7 @@ all_said : {D : Type 0} {spells : D → Desk → Type 0} {s t : Explainer D} {te
     → TookAll (SaidOfLine spells) s lines t text → AllSaid spells d s lines t text
 all_said {D} {spells} {s} {t} {text} [] d h (same, none) = record {
   desk = subst (λ (z : Explainer D). spells z.desktop d) same h;
-  told = none;
+  said = none;
   counted = ap (λ (z : Explainer D). z.lines) (sym same) ∙ omega arith;
   flag = ap (λ (z : Explainer D). z.has_said) (sym same) ∙ (sym (or_false s.has_said) ∙ ap (λ z. s.has_said || is_said z) (sym none));
 }
@@ -163,7 +163,7 @@ all_said {D} {spells} {s} {t} {text} (l ∷ ls) d h (u, a, b, one, rest, is) =
     let others : t.lines ≡ u.lines + length ls = all.counted in
     record {
       desk = all.desk;
-      told = is ∙ ap₂ (λ x y. x ++ y) (one.told d h) (all.told ∙ ap (λ n. said_of_lines (line_desk d l) n ls) one.lines);
+      said = is ∙ ap₂ (λ x y. x ++ y) (one.said d h) (all.said ∙ ap (λ n. said_of_lines (line_desk d l) n ls) one.lines);
       counted = omega arith;
       flag = all.flag ∙ (ap (λ z. z || is_said b) one.flag ∙ (either_first s.has_said (is_said a) (is_said b)
           ∙ ap (λ z. s.has_said || z) (sym (said-append a b) ∙ ap is_said (sym is))));
@@ -181,14 +181,14 @@ said_of_lines-append d n (x ∷ xs) ys =
 
 -- the whole script was explained
 record ScriptSaid {D : Type 0} (d : Desk) (bytes : List ℕ) (t : Explainer D) (text : List ℕ) : Type 0 where
-  told : text ≡ said_of_script d bytes
+  said : text ≡ said_of_script d bytes
   flag : t.has_said ≡ is_said text
 
 module _ {D : Type 0} {spells : D → Desk → Type 0} {s : Explainer D} (d : Desk) (h : spells s.desktop d) (none : s.lines ≡ 0)
     (well : s.has_said ≡ false) where
   -- the lines of a front
   lines_said : {t : Explainer D} {text : List ℕ} (lines : List (List ℕ)) → AllSaid spells d s lines t text → text ≡ said_of_lines d 0 lines
-  lines_said lines all = all.told ∙ ap (λ n. said_of_lines d n lines) none
+  lines_said lines all = all.said ∙ ap (λ n. said_of_lines d n lines) none
 
   script_said : {t : Explainer D} {text : List ℕ} (bytes : List ℕ) → TookScript (SaidOfLine spells) SaidOfRest s bytes t text
       → ScriptSaid d bytes t text
@@ -196,8 +196,8 @@ module _ {D : Type 0} {spells : D → Desk → Type 0} {s : Explainer D} (d : De
       let all = all_said (kept_lines bytes) d h w.taken in
       let counted : w.taker.lines ≡ length (kept_lines bytes) = all.counted ∙ ap (λ n. n + length (kept_lines bytes)) none ∙ omega arith in
       record {
-        told = w.whole ∙ ap₂ (λ x y. x ++ y) (lines_said (kept_lines bytes) all)
-            (w.ended.told ∙ ap (λ n. said_of_rest (n + 1) (kept_rest bytes)) counted);
+        said = w.whole ∙ ap₂ (λ x y. x ++ y) (lines_said (kept_lines bytes) all)
+            (w.ended.said ∙ ap (λ n. said_of_rest (n + 1) (kept_rest bytes)) counted);
         flag = w.ended.flag ∙ (ap (λ z. z || is_said w.rest) (all.flag ∙ ap (λ z. z || is_said w.front) well)
             ∙ (sym (said-append w.front w.rest) ∙ ap is_said (sym w.whole)));
       }
@@ -214,8 +214,8 @@ module _ {D : Type 0} {spells : D → Desk → Type 0} {s : Explainer D} (d : De
         read = fed.read;
         at_end = fed.at_end;
         well = fed.well;
-        written = subst (λ (z : List ℕ). Takes old new z) all.told fed.written;
-        status_is = is ∙ ap status_of (all.flag ∙ ap is_said all.told);
+        written = subst (λ (z : List ℕ). Takes old new z) all.said fed.written;
+        status_is = is ∙ ap status_of (all.flag ∙ ap is_said all.said);
       }
 
   -- a read failed, or there were too many
@@ -253,7 +253,7 @@ module _ {D : Type 0} {spells : D → Desk → Type 0} {s : Explainer D} (d : De
   broke_left (Some a) (Some b) {old} {new} bytes c (inr (e, t, w)) broken =
       let all : bytes ≡ a = sym (append-nil bytes) ∙ (ap (λ z. bytes ++ z) (sym e) ∙ sym c) in
       subst (λ (z : List ℕ). Breaks old new (said_of_script d z)) all
-      (subst (λ (z : List ℕ). Breaks old new z) (script_said bytes w).told broken)
+      (subst (λ (z : List ℕ). Breaks old new z) (script_said bytes w).said broken)
 
   -- the writer failed
   pub broke : {before after : Input} {old new : Output} → FedUntil (SaidOfLine spells) SaidOfRest before after s old new → ExplainedUntil d before old new

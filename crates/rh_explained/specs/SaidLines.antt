@@ -12,7 +12,7 @@ use Rattle.rh_explained.specs.declared.explainer.Explainer.{Explainer}
 pub record SaidOfMeaning {D : Type 0} (spells : D → Desk → Type 0) (s : Explainer D) (line : List ℕ)
     (meaning : Meaning (Option Command)) (t : Explainer D) (text : List ℕ) : Type 0 where
   pub desk : (d : Desk) → spells s.desktop d → spells t.desktop (meaning_desk d meaning)
-  pub told : (d : Desk) → spells s.desktop d → text ≡ said_of_meaning d (s.lines + 1) line meaning
+  pub said : (d : Desk) → spells s.desktop d → text ≡ said_of_meaning d (s.lines + 1) line meaning
   pub lines : t.lines ≡ s.lines + 1
   pub flag : t.has_said ≡ (s.has_said || is_said text)
 
@@ -22,5 +22,5 @@ SaidOfLine spells s line t text = SaidOfMeaning spells s line (line_means line) 
 
 -- what stands behind the last line feed was explained, if something does
 pub record SaidOfRest {D : Type 0} (s : Explainer D) (rest : List ℕ) (t : Explainer D) (text : List ℕ) : Type 0 where
-  pub told : text ≡ said_of_rest (s.lines + 1) rest
+  pub said : text ≡ said_of_rest (s.lines + 1) rest
   pub flag : t.has_said ≡ (s.has_said || is_said text)

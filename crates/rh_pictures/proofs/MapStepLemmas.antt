@@ -160,7 +160,7 @@ module _ {D : Type 0} {desk : D → Desk} {m n : Mapper D} {old new : List ℕ} 
   offers-text : {line : Text} {means : Meaning (Option Command)} → Offers desk m line means n old new → Gives (Drew desk m line means n) old new
   offers-text {line} {means} offers = record {
     text = written_lines (lines_of_read m.marked offers.share (place_in desk m) (line, means));
-    told = record { share = offers.share; shared = offers.shared; text_is = refl; follows = offers.follows };
+    meets = record { share = offers.share; shared = offers.shared; text_is = refl; follows = offers.follows };
     offered = offers.offered;
   }
 
@@ -178,14 +178,14 @@ module _ {D : Type 0} {desk : D → Desk} {m n : Mapper D} {old new : List ℕ} 
       let all = offers-text (offers-rest (b ∷ bs) offers) in
       let K : Text → Type 0 = λ z. Drew desk m z (rest_means z) n all.text in
       let T : Text → Type 0 = λ z. TookRest desk m z n all.text in
-      record { text = all.text; told = subst T (sym (kept-first b bs)) (subst K (kept-first b bs) all.told); offered = all.offered }
+      record { text = all.text; meets = subst T (sym (kept-first b bs)) (subst K (kept-first b bs) all.meets); offered = all.offered }
 
 -- nothing stands there
 pub rest-none : {D : Type 0} (desk : D → Desk) (m : Mapper D) (old : List ℕ) (rest : Text) → true ≡ (length rest == 0)
     → Gives (TookRest desk m (kept rest) m) old old
 rest-none desk m old [] none =
     let T : Text → Type 0 = λ z. TookRest desk m z m [] in
-    record { text = []; told = subst T (sym kept_nil) (refl, refl); offered = sym (append-nil old) }
+    record { text = []; meets = subst T (sym kept_nil) (refl, refl); offered = sym (append-nil old) }
 rest-none desk m old (b ∷ bs) none = let no : length (b ∷ bs) ≡ 0 = eqb-true (length (b ∷ bs)) 0 (sym none) in absurd (omega arith)
 
 -- ---- a step, by what its calls tell

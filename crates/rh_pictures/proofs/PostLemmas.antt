@@ -18,8 +18,8 @@ use Rattle.rh_figure.specs.Cards.{after_ref, next_text}
 use Rattle.rh_figure.specs.Scene.{held_list, ref_of}
 use Rattle.rh_map.specs.MapMessages.{held_text, message_entry_text, waits_text}
 use Rattle.rh_map.specs.MapMessages as lines
-use Rattle.rh_scene.specs.declared.message_list.Place.{Place}
-use Rattle.rh_scene.specs.declared.message_list.Place.TheVariants.{Held}
+use Rattle.rh_scene.specs.declared.message_list.MessagePlace.{MessagePlace}
+use Rattle.rh_scene.specs.declared.message_list.MessagePlace.TheVariants.{Held}
 use Rattle.rh_scene.specs.SightMessages.{before_next, items_behind, first_ref, held_ref, is_held_by, seen_item, message_place, waits_for}
 use Rattle.rh_scene.proofs.Posts.{held-is}
 use Rattle.rh_pictures.specs.Inner.BandItems.{place_seen, IsItemOf}
@@ -334,7 +334,7 @@ next-is : (ps : List Parcel) → place_seen (before_next (first_ref (map (seen_i
 next-is [] = refl
 next-is (p ∷ ps) = refl
 
-if-seen : (b : Bool) (p q : Place) → place_seen (if b then p else q) ≡ (if b then place_seen p else place_seen q)
+if-seen : (b : Bool) (p q : MessagePlace) → place_seen (if b then p else q) ≡ (if b then place_seen p else place_seen q)
 if-seen true p q = refl
 if-seen false p q = refl
 

@@ -97,13 +97,13 @@ module _ {D : Type 0} {desk : D → Desk} {m n : Painter D} {o p : List ℕ} whe
       let drew = drew-kept line (subst P means offered) in
       record {
         text = read_text m.marked drew.share (walk_in desk m) (kept line, line_means (kept line));
-        told = record { share = drew.share; shared = drew.shared; text_is = refl; follows = drew.follows };
+        meets = record { share = drew.share; shared = drew.shared; text_is = refl; follows = drew.follows };
         offered = drew.offered;
       }
 
   pub rest-took : {rest : List ℕ} → DrewRest desk m o rest n p → Gives (TookPaintedRest desk m rest n) o p
   rest-took drew = record {
     text = sheet_lines m.marked (walk_in desk m) drew.stages;
-    told = record { stages = drew.stages; lines = drew.lines; shared = drew.shared; text_is = refl; bad = drew.bad };
+    meets = record { stages = drew.stages; lines = drew.lines; shared = drew.shared; text_is = refl; bad = drew.bad };
     offered = drew.offered;
   }

@@ -7,8 +7,8 @@ use Rattle.rh_defs.specs.Post.{Seat}
 use Rattle.rh_defs.specs.Desk.{Desk}
 use Rattle.rh_figure.specs.Scene.{held_list}
 use Rattle.rh_defs.specs.declared.message.MessageItem.{MessageItem}
-use Rattle.rh_scene.specs.declared.message_list.Place.{Place}
-use Rattle.rh_scene.specs.declared.message_list.Place.TheVariants.{Held, Before, Last}
+use Rattle.rh_scene.specs.declared.message_list.MessagePlace.{MessagePlace}
+use Rattle.rh_scene.specs.declared.message_list.MessagePlace.TheVariants.{Held, Before, Last}
 
 -- a message that waits, or is held
 abbrev pub seen_item : Bool → Parcel → MessageItem
@@ -68,12 +68,12 @@ first_ref [] = None
 first_ref (m ∷ ms) = Some m.my_ref
 
 -- before the message with the ref, if there is one
-abbrev pub before_next : Option ℕ → Place
+abbrev pub before_next : Option ℕ → MessagePlace
 before_next None = Last
 before_next (Some ref) = Before ref
 
 -- where a message stands in the chain of its task
-abbrev pub message_place : List MessageItem → MessageItem → Place
+abbrev pub message_place : List MessageItem → MessageItem → MessagePlace
 message_place messages m =
     if held_ref m.to messages == m.my_ref then Held
     else before_next (first_ref (items_behind m.my_ref (filter (waits_for m.to) messages)))

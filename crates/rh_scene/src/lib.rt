@@ -17,7 +17,7 @@ mod walk;
 pub use freshness::{is_drawn, is_fresh_block, is_fresh_flex, is_new_ref};
 pub use kept::{Holding, Kept, Owner};
 pub use marks::{Effect, HeapBlock, Marks, is_still, sent_by};
-pub use message_list::{Place, held_by, message_in, place_of};
+pub use message_list::{MessagePlace, held_by, message_in, place_of};
 pub use pages::{free_of, pages_of};
 pub use pieces::{MOST_PIECES, Pieces, module_pieces, slot_pieces};
 pub use sight::{

@@ -8,7 +8,7 @@ use rh_defs::{Handle, MessageItem, Ref};
 
 /// Where a message stands in the chain of its task.
 #[derive(Clone, Copy, Debug, PartialEq, Eq)]
-pub enum Place {
+pub enum MessagePlace {
     /// The task holds it.
     Held,
     /// It waits, and behind it the message with the ref.
@@ -42,15 +42,15 @@ pub fn message_in(messages: &[MessageItem], block: u32) -> Option<MessageItem>
 }
 
 /// Where a message stands in the chain of its task.
-pub fn place_of(messages: &[MessageItem], message: MessageItem) -> Place
+pub fn place_of(messages: &[MessageItem], message: MessageItem) -> MessagePlace
     ensures { result ≡ message_place messages.now message }
 {
     if held_ref(messages, message.to) == message.my_ref {
-        return Place::Held;
+        return MessagePlace::Held;
     }
     match next_behind(messages, message) {
-        Some(next) => Place::Before(next),
-        None => Place::Last,
+        Some(next) => MessagePlace::Before(next),
+        None => MessagePlace::Last,
     }
 }
 

@@ -153,17 +153,17 @@ shows_none d name k h out taken is past e = missed (find (has_name name) d.tasks
 
 -- the size that is read is that of the whole answer
 pub record IsSize (answer : Granted Told) (bytes : List ℕ) (r : Result ℕ Refusal) : Type 0 where
-  pub told : IfOk r (λ size. answer ≡ Ok (numbers.Shown size, Bytes bytes))
+  pub shown : IfOk r (λ size. answer ≡ Ok (numbers.Shown size, Bytes bytes))
   pub size : IfOk r (λ size. size ≡ length bytes)
   pub refused : IfErr r (λ refusal. answer ≡ Err refusal)
 
 size_refused : {answer : Granted Told} {bytes : List ℕ} {r : Result ℕ Refusal} (refusal : Refusal) → r ≡ Err refusal → answer ≡ Err refusal
     → IsSize answer bytes r
-size_refused refusal e a = record { told = rw e tt; size = rw e tt; refused = rw e a }
+size_refused refusal e a = record { shown = rw e tt; size = rw e tt; refused = rw e a }
 
 size_told : {answer : Granted Told} {bytes : List ℕ} {r : Result ℕ Refusal} → r ≡ Ok (length bytes) → answer ≡ Ok (numbers.Shown (length bytes), Bytes bytes)
     → IsSize answer bytes r
-size_told e a = record { told = rw e a; size = rw e refl; refused = rw e tt }
+size_told e a = record { shown = rw e a; size = rw e refl; refused = rw e tt }
 
 size_by : (t : Bool) (bytes : List ℕ) (r : Result ℕ Refusal) (old new : List ℕ) → nat_lt (length bytes) (0 + 0) ≡ t
     → Answers (refuse_if t BadRange >> Ok (length bytes, take 0 (drop 0 bytes))) r old new → IsSize (Ok (numbers.Shown (length bytes), Bytes bytes)) bytes r

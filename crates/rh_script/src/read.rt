@@ -39,7 +39,7 @@ pub fn size_of_block<S: Store, F: NamedFiles>(
     name: &Name,
     anchor: Anchor,
 ) -> Result<u32, Refusal>
-    ensures told { IfOk result (λ size. show world.now.desk name.now anchor ≡ Ok
+    ensures shown { IfOk result (λ size. show world.now.desk name.now anchor ≡ Ok
         (Numbers.Shown size, Bytes (bytes_of_named name.now anchor world.now.desk))) }
     ensures size { IfOk result (λ size. size ≡ length (bytes_of_named name.now anchor world.now.desk)) }
     ensures anchor { IfOk result (λ size. anchor < anchor_count) }

@@ -63,21 +63,21 @@ pub gives_more : {P Q R : List ℕ → Type 0} {old mid new : List ℕ} → Give
     → ((a b : List ℕ) → P a → Q b → R (a ++ b)) → Gives R old new
 gives_more p q f = record {
   text = p.text ++ q.text;
-  told = f p.text q.text p.told q.told;
+  meets = f p.text q.text p.meets q.meets;
   offered = offers_more p q;
 }
 
 -- no more is offered
 pub offers_same : {P : List ℕ → Type 0} {old new now : List ℕ} → now ≡ new → Gives P old new → Gives P old now
-offers_same same p = record { text = p.text; told = p.told; offered = same ∙ p.offered }
+offers_same same p = record { text = p.text; meets = p.meets; offered = same ∙ p.offered }
 
 -- no text
 pub gives_none : {P : List ℕ → Type 0} (old : List ℕ) → P [] → Gives P old old
-gives_none old p = record { text = []; told = p; offered = sym (append-nil old) }
+gives_none old p = record { text = []; meets = p; offered = sym (append-nil old) }
 
 -- the same text, of which more is known, and which is offered now
 pub gives_so : {P Q : List ℕ → Type 0} {old new now : List ℕ} → now ≡ new → ((text : List ℕ) → P text → Q text) → Gives P old new → Gives Q old now
-gives_so same f p = record { text = p.text; told = f p.text p.told; offered = same ∙ p.offered }
+gives_so same f p = record { text = p.text; meets = f p.text p.meets; offered = same ∙ p.offered }
 
 -- ---- the bytes of a piece
 
@@ -230,18 +230,18 @@ pub going_on : {S : Type 0} {step : Step S} {before now : Input} {s t : S} {line
     → ((front : List ℕ) → ended front ≡ [] → line ≡ kept front → kept_line ≡ kept_rest (front ++ more))
     → Gives (Going step before after s next kept_line) old new
 going_on {S} {step} {before} {now} {s} {t} {line} after next kept_line more gone c took rest =
-    let g = gone.told in
+    let g = gone.meets in
     let begun_open : ended (unended g.bytes) ≡ [] = ended-unended g.bytes in
     let here = took (unended g.bytes) begun_open g.line_is in
     let text = gone.text ++ here.text in
     let P : List (List ℕ) → Type 0 = λ z. TookAll step s z next text in
     record {
       text = text;
-      told = record {
+      meets = record {
         bytes = g.bytes ++ more;
         read = Consumes-more before.left now.left after.left g.bytes more g.read c;
         taken = subst P (sym (kept_lines-append g.bytes more))
-            (took_more step s t next gone.text here.text (kept_lines g.bytes) (kept_lines (unended g.bytes ++ more)) g.taken here.told);
+            (took_more step s t next gone.text here.text (kept_lines g.bytes) (kept_lines (unended g.bytes ++ more)) g.taken here.meets);
         line_is = rest (unended g.bytes) begun_open g.line_is ∙ sym (ap kept (unended-append g.bytes more));
       };
       offered = offers_more gone here;
@@ -279,7 +279,7 @@ takes_nothing {o} {p} {text} same none =
 pub fed : {S : Type 0} {step : Step S} {before now : Input} {s t : S} {line old new : List ℕ} (after : Input) {o p : Output}
     → Gives (Going step before now s t line) old new → Keeps now.left after.left → Told Takes o p old new → Fed step before after s t o p
 fed {before = before} {now = now} after gone k told =
-    let g = gone.told in
+    let g = gone.meets in
     record {
       bytes = g.bytes;
       read = Consumes-keeps before.left now.left after.left g.bytes g.read k;
@@ -299,17 +299,17 @@ kept_of rest line bytes same is = ap kept (same ∙ is) ∙ kept_kept (unended b
 -- the whole script was taken
 whole_taken : {S : Type 0} {step last : Step S} {before now : Input} {s t : S} {line old mid new : List ℕ} (end : S) (rest : List ℕ)
     → (gone : Gives (Going step before now s t line) old mid) → rest ≡ line → Gives (last t (kept rest) end) mid new
-    → Gives (TookScript step last s gone.told.bytes end) old new
+    → Gives (TookScript step last s gone.meets.bytes end) old new
 whole_taken {S} {step} {last} {before} {now} {s} {t} {line} end rest gone same one =
     let Q : List ℕ → Type 0 = λ z. last t z end one.text in
     record {
       text = gone.text ++ one.text;
-      told = record {
+      meets = record {
         taker = t;
         front = gone.text;
         rest = one.text;
-        taken = gone.told.taken;
-        ended = subst Q (kept_of rest line gone.told.bytes same gone.told.line_is) one.told;
+        taken = gone.meets.taken;
+        ended = subst Q (kept_of rest line gone.meets.bytes same gone.meets.line_is) one.meets;
         whole = refl;
       };
       offered = offers_more gone one;
@@ -327,12 +327,12 @@ pub fed_all : {S : Type 0} {step last : Step S} {before now : Input} {s t : S} {
 fed_all {last = last} {before = before} {now = now} after end rest gone c e f same one told =
     let all = whole_taken {last = last} end rest gone same one in
     record {
-      bytes = gone.told.bytes;
-      read = read_whole before now after gone.told.bytes gone.told.read c;
+      bytes = gone.meets.bytes;
+      read = read_whole before now after gone.meets.bytes gone.meets.read c;
       at_end = e;
       well = f;
       text = all.text;
-      taken = all.told;
+      taken = all.meets;
       written = told all.text all.offered;
     }
 
@@ -343,10 +343,10 @@ pub fed_until_rest : {S : Type 0} {step last : Step S} {before now : Input} {s t
 fed_until_rest {last = last} {before = before} {now = now} after end rest gone c e same one told =
     let all = whole_taken {last = last} end rest gone same one in
     record {
-      bytes = gone.told.bytes;
-      read = read_whole before now after gone.told.bytes gone.told.read c;
+      bytes = gone.meets.bytes;
+      read = read_whole before now after gone.meets.bytes gone.meets.read c;
       text = all.text;
-      taken = inr (e, end, all.told);
+      taken = inr (e, end, all.meets);
       broken = told all.text all.offered;
     }
 
@@ -356,14 +356,14 @@ pub fed_until : {S : Type 0} {step last : Step S} {before now : Input} {s t : S}
     → ((front : List ℕ) → ended front ≡ [] → line ≡ kept front → Gives (TookFront step t (front ++ more)) mid new) → Told Breaks o p old new
     → FedUntil step last before after s o p
 fed_until {before = before} {now = now} after more gone c stopped told =
-    let g = gone.told in
+    let g = gone.meets in
     let here = stopped (unended g.bytes) (ended-unended g.bytes) g.line_is in
     let text = gone.text ++ here.text in
     record {
       bytes = g.bytes ++ more;
       read = Consumes-more before.left now.left after.left g.bytes more g.read c;
       text = text;
-      taken = inl (front_on g.bytes more gone.text here.text g.taken here.told);
+      taken = inl (front_on g.bytes more gone.text here.text g.taken here.meets);
       broken = told text (offers_more gone here);
     }
 

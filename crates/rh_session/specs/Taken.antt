@@ -12,7 +12,7 @@ Step S = S → List ℕ → S → List ℕ → Type 0
 -- such a text was written behind the others
 pub record Gives (is : List ℕ → Type 0) (old new : List ℕ) : Type 0 where
   pub text : List ℕ
-  pub told : is text
+  pub meets : is text
   pub offered : new ≡ old ++ text
 
 -- lines were taken, one after the other, and this is their text

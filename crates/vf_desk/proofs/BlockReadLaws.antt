@@ -10,8 +10,8 @@ use Rattle.rh_defs.specs.Order.{IsReordered, SameForEach, with_queue}
 use Rattle.rh_defs.specs.Questions.{shown_at}
 use Rattle.rh_tasks.specs.BlockBytes.{block_shown}
 use Rattle.rh_tasks.proofs.BlockOrders.{block_shown-same, module_shown-same}
-use Rattle.vf_desk.specs.declared.block_reads.Place.{Place}
-use Rattle.vf_desk.specs.declared.block_reads.Place.TheVariants as place
+use Rattle.vf_desk.specs.declared.block_reads.Lookup.{Lookup}
+use Rattle.vf_desk.specs.declared.block_reads.Lookup.TheVariants as place
 use Rattle.vf_desk.specs.BlockReads.{Read, Reading, Tells, anchor_reading, block_reading, bytes_or, read_by, read_on, reading_with}
 use Rattle.vf_desk.specs.BlockReads.{size_or, status_of_read}
 use Rattle.vf_desk.specs.DeskForms.{anchor_in, name_read}
@@ -33,7 +33,7 @@ shown-same : (name : List ℕ) (k offset n : ℕ) → Unordered (λ d. shown_at 
 unfolding shown_at named
 shown-same name k offset n d queue same = refl
 
-unordered : (p : Place) (offset n : ℕ) → AllUnordered (reading_of p offset n)
+unordered : (p : Lookup) (offset n : ℕ) → AllUnordered (reading_of p offset n)
 unordered (place.Anchored name anchor) offset n = go (name_read name.now) (anchor_in anchor)
   where
     go : (known : Option (List ℕ)) (k : Option ℕ) → AllUnordered (reading_with known k offset n)
@@ -47,7 +47,8 @@ unordered (place.Addressed name address) offset n = go (name_read name.now)
     go (Some known) = λ d queue same. block_shown-same d queue known address offset n
 unordered (place.InModule address) offset n = λ d queue same. module_shown-same d queue same address offset n
 
-pub read-alike : (p : Place) (offset n : ℕ) {a b : Desk} → IsReordered a b → read_by (Some b) (reading_of p offset n) ≡ read_by (Some a) (reading_of p offset n)
+pub read-alike : (p : Lookup) (offset n : ℕ) {a b : Desk} → IsReordered a b
+    → read_by (Some b) (reading_of p offset n) ≡ read_by (Some a) (reading_of p offset n)
 read-alike p offset n {a} {b} r = go (reading_of p offset n) (unordered p offset n)
   where
     go : (reading : Option Reading) → AllUnordered reading → read_by (Some b) reading ≡ read_by (Some a) reading
@@ -56,7 +57,7 @@ read-alike p offset n {a} {b} r = go (reading_of p offset n) (unordered p offset
 
 -- ---- on a desk that is open, and on one that isn't
 
-pub read-open : {held : Option Console} {console : Console} → held ≡ Some console → (p : Place) (offset n : ℕ) (s : Option Desk) → SeenBy held s
+pub read-open : {held : Option Console} {console : Console} → held ≡ Some console → (p : Lookup) (offset n : ℕ) (s : Option Desk) → SeenBy held s
     → read_by s (reading_of p offset n) ≡ read_by (Some console.world.desk) (reading_of p offset n)
 read-open {held} {console} is p offset n s seen = go s (subst (λ h. SeenBy h s) is seen)
   where

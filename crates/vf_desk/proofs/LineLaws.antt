@@ -71,11 +71,11 @@ fills-some {text} {lent} {bytes} {was} {n} prints = go (nat_le (length text) (le
     go : (b : Bool) → nat_le (length text) (length lent) ≡ b → Fills text lent bytes was n 0
     go true low = record {
       bytes_are = prints.bytes;
-      length_is = same (prints.told ∙ ap (λ b. if b then Some (length text) else None) low) ∙ sym (ap (λ b. if b then length text else was) low);
+      length_is = same (prints.length_is ∙ ap (λ b. if b then Some (length text) else None) low) ∙ sym (ap (λ b. if b then length text else was) low);
       status_is = sym (ap (λ b. if b then 0 else short) low);
     }
     go false low =
-        let none : ◌≡◌ {A = Option ℕ} (Some n) None = prints.told ∙ ap (λ b. if b then Some (length text) else None) low in
+        let none : ◌≡◌ {A = Option ℕ} (Some n) None = prints.length_is ∙ ap (λ b. if b then Some (length text) else None) low in
         absurd (cc)
 
 -- a text that had none
@@ -84,7 +84,7 @@ fills-none {text} {lent} {bytes} {was} prints = go (nat_le (length text) (length
   where
     go : (b : Bool) → nat_le (length text) (length lent) ≡ b → Fills text lent bytes was was short
     go true low =
-        let some : ◌≡◌ {A = Option ℕ} None (Some (length text)) = prints.told ∙ ap (λ b. if b then Some (length text) else None) low in
+        let some : ◌≡◌ {A = Option ℕ} None (Some (length text)) = prints.length_is ∙ ap (λ b. if b then Some (length text) else None) low in
         absurd (cc)
     go false low = record {
       bytes_are = prints.bytes;

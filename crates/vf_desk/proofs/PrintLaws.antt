@@ -47,5 +47,5 @@ prints-some {text} {lent} {now} {bytes} {n} fit are is told =
     let low : nat_le (length text) (length lent) ≡ true = grind (arith, tests) in
     record {
       bytes = is ∙ are ∙ sym (ap (λ b. if b then text ++ drop (length text) lent else lent) low);
-      told = ap Some told ∙ sym (ap (λ b. if b then Some (length text) else None) low);
+      length_is = ap Some told ∙ sym (ap (λ b. if b then Some (length text) else None) low);
     }

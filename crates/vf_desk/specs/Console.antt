@@ -17,4 +17,4 @@ fitting text room = if nat_le (length text) room then Some (length text) else No
 -- lent bytes have a text, and its length is answered, if they have room for it; if not they stay
 pub record Prints (text old now : List ℕ) (result : Option ℕ) : Type 0 where
   pub bytes : now ≡ with_text text old
-  pub told : result ≡ fitting text (length old)
+  pub length_is : result ≡ fitting text (length old)

@@ -50,7 +50,7 @@ as_area (item.Slot name pages) = record { number = 0; pages = pages; name = padd
 
 -- what an answer lists; a refusal lists nothing
 abbrev pub listed_with : Granted Told → Listed
-listed_with (Ok told) = told.1
+listed_with (Ok answered) = answered.1
 listed_with (Err refusal) = Nothing
 
 -- what is listed for a question, where the desk is open and seen as this one, or closed

@@ -15,7 +15,7 @@ use std::alloc::Global;
 
 /// Which block is read.
 #[derive(Clone, Copy)]
-pub enum Place<'a> {
+pub enum Lookup<'a> {
     /// The anchor's, in the slot of the task with the name.
     Anchored { name: &'a [u8], anchor: u32 },
     /// The one at the address, a flex block or one of the C heap, in the slot of the task with the name.
@@ -27,29 +27,29 @@ pub enum Place<'a> {
 /// Reads bytes of a block, from an offset on, and answers its size; None where name or anchor isn't of its form.
 fn read_world(
     world: &PagedWorld,
-    place: Place<'_>,
+    place: Lookup<'_>,
     offset: u32,
     to: &mut [u8],
 ) -> Option<Result<u32, Refusal>>
     ensures { IsRead (reading_of place.entry offset (length to.old)) world.now.desk result to.old to.new }
 {
     match place {
-        Place::Anchored { name, anchor } => {
+        Lookup::Anchored { name, anchor } => {
             let name = name_of(name)?;
             let anchor = anchor_of(anchor)?;
             Some(world.show(&name, anchor, offset, to))
         }
-        Place::Addressed { name, address } => {
+        Lookup::Addressed { name, address } => {
             let name = name_of(name)?;
             Some(world.read_block(&name, address, offset, to))
         }
-        Place::InModule { address } => Some(world.read_module(address, offset, to)),
+        Lookup::InModule { address } => Some(world.read_module(address, offset, to)),
     }
 }
 
 impl OpenDesk {
     /// Reads bytes of a block, from an offset on, and tells its size.
-    fn read(&self, place: Place<'_>, offset: u32, to: &mut [u8], size: &mut u32) -> u32
+    fn read(&self, place: Lookup<'_>, offset: u32, to: &mut [u8], size: &mut u32) -> u32
         ensures { (s : Option Desk) → SeenBy self.now.console s →
             Tells (read_by s (reading_of place.entry offset (length to.old))) result size.old size.new to.old to.new }
     {
@@ -72,7 +72,7 @@ impl VfDesk {
     fn read(
         &mut self,
         alloc: Global,
-        place: Place<'_>,
+        place: Lookup<'_>,
         offset: u32,
         to: &mut [u8],
         size: &mut u32,
@@ -103,7 +103,7 @@ pub extern "C" fn vf_desk_show_at(
     ensures { Reads (anchor_reading name.now anchor offset (length to.old)) desk.old desk.new result
         size.old size.new to.old to.new }
 {
-    desk.read(alloc, Place::Anchored { name, anchor }, offset, to, size)
+    desk.read(alloc, Lookup::Anchored { name, anchor }, offset, to, size)
 }
 
 /// Tells the size of the block at an address of the task's slot, a flex block or one of its C heap, and fills `to` with
@@ -121,7 +121,7 @@ pub extern "C" fn vf_desk_read(
     ensures { Reads (block_reading name.now address offset (length to.old)) desk.old desk.new result
         size.old size.new to.old to.new }
 {
-    desk.read(alloc, Place::Addressed { name, address }, offset, to, size)
+    desk.read(alloc, Lookup::Addressed { name, address }, offset, to, size)
 }
 
 /// Tells the size of a block of the module area, and fills `to` with its bytes from an offset on.
@@ -137,5 +137,5 @@ pub extern "C" fn vf_desk_rma_read(
     ensures { Reads (module_reading address offset (length to.old)) desk.old desk.new result
         size.old size.new to.old to.new }
 {
-    desk.read(alloc, Place::InModule { address }, offset, to, size)
+    desk.read(alloc, Lookup::InModule { address }, offset, to, size)
 }

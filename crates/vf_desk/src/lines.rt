@@ -70,13 +70,13 @@ impl OpenDesk {
 }
 
 /// Puts the text of the reply that is kept into lent bytes, and tells its length if there is room for it.
-fn fill(console: &Console, text: &mut [u8], told: &mut usize) -> u32
+fn fill(console: &Console, text: &mut [u8], length: &mut usize) -> u32
     ensures { (d : Desk) → IsReordered d console.now.world.desk →
-        Fills (said_text d console.now.said) text.old text.new told.old told.new result }
+        Fills (said_text d console.now.said) text.old text.new length.old length.new result }
 {
     match console.print(text) {
         Some(n) => {
-            *told = n;
+            *length = n;
             OK
         }
         None => SHORT,

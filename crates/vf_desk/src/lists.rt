@@ -67,7 +67,7 @@ pub struct SegmentRun {
 /// Puts segments into a slice from an index on, as many as there is room for; None where there are none.
 fn put_run(items: &[SegmentItem], to: &mut [VfSegment], at: usize) -> Option<SegmentRun>
     ensures list { to.new ≡ filled_from at (map as_segment items.now) to.old }
-    ensures told { IsRun items.now result }
+    ensures run { IsRun items.now result }
 {
     fill(items, to, at);
     let last = items.last()?;
@@ -88,7 +88,7 @@ fn list_run(
 ) -> Option<SegmentRun>
     ensures list { to.new ≡
         filled_from at (map as_segment (segment_items_at place (heap_of_named name.now world.now.desk))) to.old }
-    ensures told { IsRun (segment_items_at place (heap_of_named name.now world.now.desk)) result }
+    ensures run { IsRun (segment_items_at place (heap_of_named name.now world.now.desk)) result }
 {
     let mut items = ArrayVec::new();
     match world.segments_of(name, place, &mut items) {

@@ -111,6 +111,6 @@ abbrev pub in_block : List ℕ → Message → List ℕ
 in_block old m = with_part old 0 (encoded m)
 
 -- what bytes spell, with a status in place of their fault
-abbrev pub decode_told : Result Message MessageFault → WithStatus Message
-decode_told (Ok m) = Ok m
-decode_told (Err fault) = Err (fault_status fault)
+abbrev pub decode_answer : Result Message MessageFault → WithStatus Message
+decode_answer (Ok m) = Ok m
+decode_answer (Err fault) = Err (fault_status fault)

@@ -32,57 +32,57 @@ abbrev pub load_asks : VfReceiver → ℕ → ℕ → ℕ → WithStatus (Option
 load_asks r from my_ref your_ref = and_then (receiver_in r) (λ records. Ok (receiver.on_load from my_ref your_ref records))
 
 -- whether a transfer's DataSaveAck came back, and the records then
-abbrev pub ack_bounce_told : VfReceiver → ℕ → WithStatus (Bool × List Incoming)
-ack_bounce_told r ref =
+abbrev pub ack_bounce_answer : VfReceiver → ℕ → WithStatus (Bool × List Incoming)
+ack_bounce_answer r ref =
     and_then (receiver_in r) (λ records.
     let found = receiver.on_ack_bounce ref records in Ok (is_some found, receiver.ack_bounced found records))
 
 -- the records when a transfer that comes in was given up
-abbrev pub cancel_taking_told : VfReceiver → ℕ → WithStatus (List Incoming)
-cancel_taking_told r id = and_then (receiver_in r) (λ records. by_rules (receiver.cancel_taking (wanted id) records))
+abbrev pub cancel_taking_answer : VfReceiver → ℕ → WithStatus (List Incoming)
+cancel_taking_answer r id = and_then (receiver_in r) (λ records. by_rules (receiver.cancel_taking (wanted id) records))
 
 -- ---- how an action ended
 
 -- the records when a buffer was claimed and its fetch sent
-abbrev pub fetching_told : VfReceiver → VfTakeAction → ℕ → ℕ → ℕ → WithStatus (List Incoming)
-fetching_told r w anchor buffer fetch =
+abbrev pub fetching_answer : VfReceiver → VfTakeAction → ℕ → ℕ → ℕ → WithStatus (List Incoming)
+fetching_answer r w anchor buffer fetch =
     and_then (receiver_in r) (λ records. and_then (claim_in w) (λ a. and_then (anchor_in anchor) (λ k.
     by_rules (tell_fetching a k buffer fetch records))))
 
 -- the records when bytes were taken and the next fetch was sent
-abbrev pub fetched_told : VfReceiver → VfTakeAction → ℕ → WithStatus (List Incoming)
-fetched_told r w fetch =
+abbrev pub fetched_answer : VfReceiver → VfTakeAction → ℕ → WithStatus (List Incoming)
+fetched_answer r w fetch =
     and_then (receiver_in r) (λ records. and_then (append_in w) (λ a. by_rules (tell_fetched a fetch records)))
 
 -- the records when the last bytes were taken
-abbrev pub finished_told : VfReceiver → VfTakeAction → WithStatus (List Incoming)
-finished_told r w = and_then (receiver_in r) (λ records. and_then (append_in w) (λ a. by_rules (tell_finished a records)))
+abbrev pub finished_answer : VfReceiver → VfTakeAction → WithStatus (List Incoming)
+finished_answer r w = and_then (receiver_in r) (λ records. and_then (append_in w) (λ a. by_rules (tell_finished a records)))
 
 -- the records when the sender was asked for a file
-abbrev pub asking_told : VfReceiver → VfTakeAction → ℕ → WithStatus (List Incoming)
-asking_told r w ack = and_then (receiver_in r) (λ records. and_then (ask_in w) (λ f. by_rules (tell_asking f ack records)))
+abbrev pub asking_answer : VfReceiver → VfTakeAction → ℕ → WithStatus (List Incoming)
+asking_answer r w ack = and_then (receiver_in r) (λ records. and_then (ask_in w) (λ f. by_rules (tell_asking f ack records)))
 
 -- the records when the scrap file was loaded
-abbrev pub taking_loaded_told : VfReceiver → VfTakeAction → ℕ → WithStatus (List Incoming)
-taking_loaded_told r w size =
+abbrev pub taking_loaded_answer : VfReceiver → VfTakeAction → ℕ → WithStatus (List Incoming)
+taking_loaded_answer r w size =
     and_then (receiver_in r) (λ records. and_then (load_file_in w) (λ a. by_rules (tell_taking_loaded a size records)))
 
 -- the records when an action failed, by how many of its bytes were kept
-abbrev pub taking_failed_told : VfReceiver → VfTakeAction → ℕ → WithStatus (List Incoming)
-taking_failed_told r w kept =
+abbrev pub taking_failed_answer : VfReceiver → VfTakeAction → ℕ → WithStatus (List Incoming)
+taking_failed_answer r w kept =
     and_then (receiver_in r) (λ records. and_then (take_action_in w) (λ a. by_rules (tell_failed a kept records)))
 
 -- ---- what else is asked
 
 -- the fetch of a buffer that was claimed
-abbrev pub first_fetch_told : VfTakeAction → ℕ → ℕ → WithStatus Fetch
-first_fetch_told w buffer room = and_then (claim_in w) (λ a. Ok (receiver.first_fetch a buffer room))
+abbrev pub first_fetch_answer : VfTakeAction → ℕ → ℕ → WithStatus Fetch
+first_fetch_answer w buffer room = and_then (claim_in w) (λ a. Ok (receiver.first_fetch a buffer room))
 
 -- whether the anchor's block is a document that grows
-abbrev pub document_told : VfReceiver → ℕ → WithStatus Bool
-document_told r anchor =
+abbrev pub document_answer : VfReceiver → ℕ → WithStatus Bool
+document_answer r anchor =
     and_then (receiver_in r) (λ records. and_then (anchor_in anchor) (λ k. Ok (list_any (is_document k) records)))
 
 -- whether the block at the address is a transfer's buffer
-abbrev pub buffer_told : VfReceiver → ℕ → WithStatus Bool
-buffer_told r address = and_then (receiver_in r) (λ records. Ok (list_any (is_buffer_of address) records))
+abbrev pub buffer_answer : VfReceiver → ℕ → WithStatus Bool
+buffer_answer r address = and_then (receiver_in r) (λ records. Ok (list_any (is_buffer_of address) records))

@@ -13,8 +13,8 @@ use Rattle.vf_ram.specs.SenderWords.{sender_in, transmit_in, save_file_in, finis
 use Rattle.vf_ram.specs.WithStatus.{WithStatus, and_then, by_rules, anchor_in, wanted}
 
 -- the records with a new transfer
-abbrev pub offer_told : VfSender → ℕ → ℕ → ℕ → WithStatus (List Outgoing)
-offer_told s id recipient anchor =
+abbrev pub offer_answer : VfSender → ℕ → ℕ → ℕ → WithStatus (List Outgoing)
+offer_answer s id recipient anchor =
     and_then (sender_in s) (λ records. and_then (anchor_in anchor) (λ k. by_rules (sender.offer id recipient k records)))
 
 -- ---- events
@@ -33,44 +33,44 @@ abbrev pub load_ack_asks : VfSender → ℕ → ℕ → WithStatus (Option SendA
 load_ack_asks s from your_ref = and_then (sender_in s) (λ records. Ok (sender.on_load_ack from your_ref records))
 
 -- whether a transfer's message came back, and the records then
-abbrev pub bounce_told : VfSender → ℕ → WithStatus (Bool × List Outgoing)
-bounce_told s ref =
+abbrev pub bounce_answer : VfSender → ℕ → WithStatus (Bool × List Outgoing)
+bounce_answer s ref =
     and_then (sender_in s) (λ records.
     let found = sender.on_sending_bounce ref records in Ok (is_some found, sender.sending_bounced found records))
 
 -- the records when a transfer that goes out was given up
-abbrev pub cancel_told : VfSender → ℕ → WithStatus (List Outgoing)
-cancel_told s id = and_then (sender_in s) (λ records. by_rules (sender.cancel_sending (wanted id) records))
+abbrev pub cancel_answer : VfSender → ℕ → WithStatus (List Outgoing)
+cancel_answer s id = and_then (sender_in s) (λ records. by_rules (sender.cancel_sending (wanted id) records))
 
 -- ---- how an action ended
 
 -- the records when bytes were sent
-abbrev pub sent_told : VfSender → VfSendAction → ℕ → ℕ → WithStatus (List Outgoing)
-sent_told s w size last =
+abbrev pub sent_answer : VfSender → VfSendAction → ℕ → ℕ → WithStatus (List Outgoing)
+sent_answer s w size last =
     and_then (sender_in s) (λ records. and_then (transmit_in w) (λ a. by_rules (tell_sent a size last records)))
 
 -- the records when a file was saved
-abbrev pub saved_told : VfSender → VfSendAction → ℕ → WithStatus (List Outgoing)
-saved_told s w last =
+abbrev pub saved_answer : VfSender → VfSendAction → ℕ → WithStatus (List Outgoing)
+saved_answer s w last =
     and_then (sender_in s) (λ records. and_then (save_file_in w) (λ a. by_rules (tell_saved a last records)))
 
 -- the records when the recipient has loaded the file
-abbrev pub loaded_told : VfSender → VfSendAction → ℕ → WithStatus (List Outgoing)
-loaded_told s w size =
+abbrev pub loaded_answer : VfSender → VfSendAction → ℕ → WithStatus (List Outgoing)
+loaded_answer s w size =
     and_then (sender_in s) (λ records. and_then (finish_in w) (λ x. by_rules (tell_sending_loaded x size records)))
 
 -- the records when an action failed
-abbrev pub failed_told : VfSender → VfSendAction → WithStatus (List Outgoing)
-failed_told s w =
+abbrev pub failed_answer : VfSender → VfSendAction → WithStatus (List Outgoing)
+failed_answer s w =
     and_then (sender_in s) (λ records. and_then (send_action_in w) (λ a. by_rules (tell_sending_failed a records)))
 
 -- ---- what else is asked
 
 -- the bytes that an action to transmit sends
-abbrev pub part_told : VfSendAction → ℕ → WithStatus Part
-part_told w size = and_then (transmit_in w) (λ a. Ok (sender.next_part a size))
+abbrev pub part_answer : VfSendAction → ℕ → WithStatus Part
+part_answer w size = and_then (transmit_in w) (λ a. Ok (sender.next_part a size))
 
 -- whether the anchor's block is the source of an open transfer
-abbrev pub source_told : VfSender → ℕ → WithStatus Bool
-source_told s anchor =
+abbrev pub source_answer : VfSender → ℕ → WithStatus Bool
+source_answer s anchor =
     and_then (sender_in s) (λ records. and_then (anchor_in anchor) (λ k. Ok (list_any (is_source k) records)))

@@ -2,7 +2,7 @@
 ghost use Rattle.std.specs.Prelude.{◌≡◌};
 ghost use Rattle.rh_defs.specs.MessageImage.{decoded};
 ghost use Rattle.rh_defs.specs.Messages.{encoded_length};
-ghost use Rattle.vf_ram.specs.MessageWords.{as_words, decode_told, in_block, message_in_words};
+ghost use Rattle.vf_ram.specs.MessageWords.{as_words, decode_answer, in_block, message_in_words};
 ghost use Rattle.vf_ram.specs.WithStatus.{shown_or, status_of};
 
 use crate::message_words::VfMessageWords;
@@ -39,8 +39,8 @@ pub extern "C" fn vf_message_encode(
 /// Reads a message out of a block's bytes. (Wimp_Poll.)
 #[unsafe(no_mangle)]
 pub extern "C" fn vf_message_decode(bytes: &[u8], words: &mut VfMessageWords) -> u32
-    ensures status { result ≡ status_of (decode_told (decoded bytes.now)) }
-    ensures words { words.new ≡ shown_or as_words (decode_told (decoded bytes.now)) words.old }
+    ensures status { result ≡ status_of (decode_answer (decoded bytes.now)) }
+    ensures words { words.new ≡ shown_or as_words (decode_answer (decoded bytes.now)) words.old }
 {
     match rh_wimp::decode(bytes) {
         Ok(known) => {

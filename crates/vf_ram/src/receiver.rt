@@ -4,12 +4,12 @@ ghost use Rattle.rh_defs.specs.Chain.{Granted, outcome_of, result_or};
 ghost use Rattle.rh_defs.specs.declared.transfer.Incoming.{Incoming};
 ghost use Rattle.rh_ram.specs.Told.{tell_fetched as tell_fetched_of, tell_finished as tell_finished_of};
 ghost use Rattle.rh_ram.specs.Told.{tell_failed as tell_failed_of};
-ghost use Rattle.vf_ram.specs.ReceiverCalls.{ack_bounce_told, asking_told, buffer_told, cancel_taking_told};
-ghost use Rattle.vf_ram.specs.ReceiverCalls.{document_told, fetch_bounce_asks, fetched_told, fetching_told};
-ghost use Rattle.vf_ram.specs.ReceiverCalls.{finished_told, first_fetch_told, load_asks, save_asks, taking_failed_told};
-ghost use Rattle.vf_ram.specs.ReceiverCalls.{taking_loaded_told, transmit_asks};
+ghost use Rattle.vf_ram.specs.ReceiverCalls.{ack_bounce_answer, asking_answer, buffer_answer, cancel_taking_answer};
+ghost use Rattle.vf_ram.specs.ReceiverCalls.{document_answer, fetch_bounce_asks, fetched_answer, fetching_answer};
+ghost use Rattle.vf_ram.specs.ReceiverCalls.{finished_answer, first_fetch_answer, load_asks, save_asks};
+ghost use Rattle.vf_ram.specs.ReceiverCalls.{taking_failed_answer, taking_loaded_answer, transmit_asks};
 ghost use Rattle.vf_ram.specs.ReceiverWords.{as_fetch, as_receiver, as_take_action};
-ghost use Rattle.vf_ram.specs.WithStatus.{by_rules as by_rules_of, shown_or, status_of as status_of_told};
+ghost use Rattle.vf_ram.specs.WithStatus.{by_rules as by_rules_of, shown_or, status_of as status_of_answer};
 
 use crate::receiver_words::{VfFetch, VfReceiver, VfTakeAction};
 use crate::status::{OK, by_rules, read_anchor, wanted};
@@ -35,7 +35,7 @@ pub extern "C" fn vf_receiver_on_save(
     my_ref: u32,
     action: &mut VfTakeAction,
 ) -> u32
-    ensures status { result ≡ status_of_told (save_asks receiver.now is_deaf from my_ref) }
+    ensures status { result ≡ status_of_answer (save_asks receiver.now is_deaf from my_ref) }
     ensures action { action.new ≡ shown_or as_take_action (save_asks receiver.now is_deaf from my_ref) action.old }
 {
     match receiver.read() {
@@ -52,8 +52,8 @@ pub extern "C" fn vf_receiver_first_fetch(
     room: u32,
     fetch: &mut VfFetch,
 ) -> u32
-    ensures status { result ≡ status_of_told (first_fetch_told action.now buffer room) }
-    ensures fetch { fetch.new ≡ shown_or as_fetch (first_fetch_told action.now buffer room) fetch.old }
+    ensures status { result ≡ status_of_answer (first_fetch_answer action.now buffer room) }
+    ensures fetch { fetch.new ≡ shown_or as_fetch (first_fetch_answer action.now buffer room) fetch.old }
 {
     match fetch_for(action, buffer, room) {
         Ok(first) => {
@@ -65,7 +65,7 @@ pub extern "C" fn vf_receiver_first_fetch(
 }
 
 fn fetch_for(action: &VfTakeAction, buffer: u32, room: u32) -> Result<Fetch, u32>
-    ensures { result ≡ first_fetch_told action.now buffer room }
+    ensures { result ≡ first_fetch_answer action.now buffer room }
 {
     Ok(first_fetch(&action.claim()?, buffer, room))
 }
@@ -79,12 +79,12 @@ pub extern "C" fn vf_receiver_fetching(
     buffer: u32,
     fetch: u32,
 ) -> u32
-    ensures status { result ≡ status_of_told (fetching_told receiver.old action.now anchor buffer fetch) }
+    ensures status { result ≡ status_of_answer (fetching_answer receiver.old action.now anchor buffer fetch) }
     ensures receiver { receiver.new
-        ≡ shown_or as_receiver (fetching_told receiver.old action.now anchor buffer fetch) receiver.old }
+        ≡ shown_or as_receiver (fetching_answer receiver.old action.now anchor buffer fetch) receiver.old }
 {
-    let told = fetching(receiver, action, anchor, buffer, fetch);
-    write(receiver, told)
+    let answer = fetching(receiver, action, anchor, buffer, fetch);
+    write(receiver, answer)
 }
 
 fn fetching(
@@ -94,7 +94,7 @@ fn fetching(
     buffer: u32,
     fetch: u32,
 ) -> Result<Receiver, u32>
-    ensures { result ≡ fetching_told receiver.now action.now anchor buffer fetch }
+    ensures { result ≡ fetching_answer receiver.now action.now anchor buffer fetch }
 {
     let mut known = receiver.read()?;
     let claim = action.claim()?;
@@ -115,7 +115,7 @@ pub extern "C" fn vf_receiver_on_transmit(
     n: u32,
     action: &mut VfTakeAction,
 ) -> u32
-    ensures status { result ≡ status_of_told (transmit_asks receiver.now room from my_ref your_ref buffer n) }
+    ensures status { result ≡ status_of_answer (transmit_asks receiver.now room from my_ref your_ref buffer n) }
     ensures action { action.new
         ≡ shown_or as_take_action (transmit_asks receiver.now room from my_ref your_ref buffer n) action.old }
 {
@@ -142,15 +142,15 @@ pub extern "C" fn vf_receiver_fetched(
     action: &VfTakeAction,
     fetch: u32,
 ) -> u32
-    ensures status { result ≡ status_of_told (fetched_told receiver.old action.now fetch) }
-    ensures receiver { receiver.new ≡ shown_or as_receiver (fetched_told receiver.old action.now fetch) receiver.old }
+    ensures status { result ≡ status_of_answer (fetched_answer receiver.old action.now fetch) }
+    ensures receiver { receiver.new ≡ shown_or as_receiver (fetched_answer receiver.old action.now fetch) receiver.old }
 {
-    let told = fetched(receiver, action, fetch);
-    write(receiver, told)
+    let answer = fetched(receiver, action, fetch);
+    write(receiver, answer)
 }
 
 fn fetched(receiver: &VfReceiver, action: &VfTakeAction, fetch: u32) -> Result<Receiver, u32>
-    ensures { result ≡ fetched_told receiver.now action.now fetch }
+    ensures { result ≡ fetched_answer receiver.now action.now fetch }
 {
     let mut known = receiver.read()?;
     let Append { transfer, n, next } = action.append()?;
@@ -168,15 +168,15 @@ fn tell_fetched(known: &mut Receiver, action: Append, fetch: Ref) -> Result<(), 
 /// The last bytes were appended, and the buffer was released.
 #[unsafe(no_mangle)]
 pub extern "C" fn vf_receiver_finished(receiver: &mut VfReceiver, action: &VfTakeAction) -> u32
-    ensures status { result ≡ status_of_told (finished_told receiver.old action.now) }
-    ensures receiver { receiver.new ≡ shown_or as_receiver (finished_told receiver.old action.now) receiver.old }
+    ensures status { result ≡ status_of_answer (finished_answer receiver.old action.now) }
+    ensures receiver { receiver.new ≡ shown_or as_receiver (finished_answer receiver.old action.now) receiver.old }
 {
-    let told = finished(receiver, action);
-    write(receiver, told)
+    let answer = finished(receiver, action);
+    write(receiver, answer)
 }
 
 fn finished(receiver: &VfReceiver, action: &VfTakeAction) -> Result<Receiver, u32>
-    ensures { result ≡ finished_told receiver.now action.now }
+    ensures { result ≡ finished_answer receiver.now action.now }
 {
     let mut known = receiver.read()?;
     let Append { transfer, n, next } = action.append()?;
@@ -199,16 +199,16 @@ pub extern "C" fn vf_receiver_failed(
     action: &VfTakeAction,
     kept: u32,
 ) -> u32
-    ensures status { result ≡ status_of_told (taking_failed_told receiver.old action.now kept) }
+    ensures status { result ≡ status_of_answer (taking_failed_answer receiver.old action.now kept) }
     ensures receiver { receiver.new
-        ≡ shown_or as_receiver (taking_failed_told receiver.old action.now kept) receiver.old }
+        ≡ shown_or as_receiver (taking_failed_answer receiver.old action.now kept) receiver.old }
 {
-    let told = failed(receiver, action, kept);
-    write(receiver, told)
+    let answer = failed(receiver, action, kept);
+    write(receiver, answer)
 }
 
 fn failed(receiver: &VfReceiver, action: &VfTakeAction, kept: u32) -> Result<Receiver, u32>
-    ensures { result ≡ taking_failed_told receiver.now action.now kept }
+    ensures { result ≡ taking_failed_answer receiver.now action.now kept }
 {
     let mut known = receiver.read()?;
     match action.read() {
@@ -234,7 +234,7 @@ pub extern "C" fn vf_receiver_on_bounce(
     fetch: u32,
     action: &mut VfTakeAction,
 ) -> u32
-    ensures status { result ≡ status_of_told (fetch_bounce_asks receiver.now fetch) }
+    ensures status { result ≡ status_of_answer (fetch_bounce_asks receiver.now fetch) }
     ensures action { action.new ≡ shown_or as_take_action (fetch_bounce_asks receiver.now fetch) action.old }
 {
     match receiver.read() {
@@ -250,15 +250,15 @@ pub extern "C" fn vf_receiver_asking(
     action: &VfTakeAction,
     ack: u32,
 ) -> u32
-    ensures status { result ≡ status_of_told (asking_told receiver.old action.now ack) }
-    ensures receiver { receiver.new ≡ shown_or as_receiver (asking_told receiver.old action.now ack) receiver.old }
+    ensures status { result ≡ status_of_answer (asking_answer receiver.old action.now ack) }
+    ensures receiver { receiver.new ≡ shown_or as_receiver (asking_answer receiver.old action.now ack) receiver.old }
 {
-    let told = asking(receiver, action, ack);
-    write(receiver, told)
+    let answer = asking(receiver, action, ack);
+    write(receiver, answer)
 }
 
 fn asking(receiver: &VfReceiver, action: &VfTakeAction, ack: u32) -> Result<Receiver, u32>
-    ensures { result ≡ asking_told receiver.now action.now ack }
+    ensures { result ≡ asking_answer receiver.now action.now ack }
 {
     let mut known = receiver.read()?;
     let f = action.ask()?;
@@ -273,9 +273,10 @@ pub extern "C" fn vf_receiver_on_ack_bounce(
     ack: u32,
     known: &mut bool,
 ) -> u32
-    ensures status { result ≡ status_of_told (ack_bounce_told receiver.old ack) }
-    ensures receiver { receiver.new ≡ shown_or (λ p. as_receiver p.1) (ack_bounce_told receiver.old ack) receiver.old }
-    ensures known { known.new ≡ shown_or (λ p. p.0) (ack_bounce_told receiver.old ack) known.old }
+    ensures status { result ≡ status_of_answer (ack_bounce_answer receiver.old ack) }
+    ensures receiver { receiver.new
+        ≡ shown_or (λ p. as_receiver p.1) (ack_bounce_answer receiver.old ack) receiver.old }
+    ensures known { known.new ≡ shown_or (λ p. p.0) (ack_bounce_answer receiver.old ack) known.old }
 {
     match receiver.read() {
         Ok(mut records) => {
@@ -296,7 +297,7 @@ pub extern "C" fn vf_receiver_on_load(
     your_ref: u32,
     action: &mut VfTakeAction,
 ) -> u32
-    ensures status { result ≡ status_of_told (load_asks receiver.now from my_ref your_ref) }
+    ensures status { result ≡ status_of_answer (load_asks receiver.now from my_ref your_ref) }
     ensures action { action.new ≡ shown_or as_take_action (load_asks receiver.now from my_ref your_ref) action.old }
 {
     match receiver.read() {
@@ -315,16 +316,16 @@ pub extern "C" fn vf_receiver_loaded(
     action: &VfTakeAction,
     size: u32,
 ) -> u32
-    ensures status { result ≡ status_of_told (taking_loaded_told receiver.old action.now size) }
+    ensures status { result ≡ status_of_answer (taking_loaded_answer receiver.old action.now size) }
     ensures receiver { receiver.new
-        ≡ shown_or as_receiver (taking_loaded_told receiver.old action.now size) receiver.old }
+        ≡ shown_or as_receiver (taking_loaded_answer receiver.old action.now size) receiver.old }
 {
-    let told = loaded(receiver, action, size);
-    write(receiver, told)
+    let answer = loaded(receiver, action, size);
+    write(receiver, answer)
 }
 
 fn loaded(receiver: &VfReceiver, action: &VfTakeAction, size: u32) -> Result<Receiver, u32>
-    ensures { result ≡ taking_loaded_told receiver.now action.now size }
+    ensures { result ≡ taking_loaded_answer receiver.now action.now size }
 {
     let mut known = receiver.read()?;
     let action = action.load_file()?;
@@ -335,15 +336,15 @@ fn loaded(receiver: &VfReceiver, action: &VfTakeAction, size: u32) -> Result<Rec
 /// Gives a transfer up that fetches or waits for a file: the one with the id, with 0 for it the first.
 #[unsafe(no_mangle)]
 pub extern "C" fn vf_receiver_cancel(receiver: &mut VfReceiver, id: u32) -> u32
-    ensures status { result ≡ status_of_told (cancel_taking_told receiver.old id) }
-    ensures receiver { receiver.new ≡ shown_or as_receiver (cancel_taking_told receiver.old id) receiver.old }
+    ensures status { result ≡ status_of_answer (cancel_taking_answer receiver.old id) }
+    ensures receiver { receiver.new ≡ shown_or as_receiver (cancel_taking_answer receiver.old id) receiver.old }
 {
-    let told = cancelled(receiver, id);
-    write(receiver, told)
+    let answer = cancelled(receiver, id);
+    write(receiver, answer)
 }
 
 fn cancelled(receiver: &VfReceiver, id: u32) -> Result<Receiver, u32>
-    ensures { result ≡ cancel_taking_told receiver.now id }
+    ensures { result ≡ cancel_taking_answer receiver.now id }
 {
     let mut known = receiver.read()?;
     let ended = known.cancel(wanted(id));
@@ -357,8 +358,8 @@ pub extern "C" fn vf_receiver_is_document(
     anchor: u32,
     is_document: &mut bool,
 ) -> u32
-    ensures status { result ≡ status_of_told (document_told receiver.now anchor) }
-    ensures answer { is_document.new ≡ shown_or (λ b. b) (document_told receiver.now anchor) is_document.old }
+    ensures status { result ≡ status_of_answer (document_answer receiver.now anchor) }
+    ensures answer { is_document.new ≡ shown_or (λ b. b) (document_answer receiver.now anchor) is_document.old }
 {
     match document(receiver, anchor) {
         Ok(holds) => {
@@ -370,7 +371,7 @@ pub extern "C" fn vf_receiver_is_document(
 }
 
 fn document(receiver: &VfReceiver, anchor: u32) -> Result<bool, u32>
-    ensures { result ≡ document_told receiver.now anchor }
+    ensures { result ≡ document_answer receiver.now anchor }
 {
     let known = receiver.read()?;
     Ok(known.is_document(read_anchor(anchor)?))
@@ -383,8 +384,8 @@ pub extern "C" fn vf_receiver_is_buffer(
     address: u32,
     is_buffer: &mut bool,
 ) -> u32
-    ensures status { result ≡ status_of_told (buffer_told receiver.now address) }
-    ensures answer { is_buffer.new ≡ shown_or (λ b. b) (buffer_told receiver.now address) is_buffer.old }
+    ensures status { result ≡ status_of_answer (buffer_answer receiver.now address) }
+    ensures answer { is_buffer.new ≡ shown_or (λ b. b) (buffer_answer receiver.now address) is_buffer.old }
 {
     match receiver.read() {
         Ok(known) => {
@@ -414,11 +415,11 @@ fn known_after(known: Receiver, ended: Result<(), Refusal>) -> Result<Receiver, 
 }
 
 /// Writes the struct anew, where there is a receiver.
-fn write(receiver: &mut VfReceiver, told: Result<Receiver, u32>) -> u32
-    ensures status { result ≡ status_of_told told }
-    ensures receiver { receiver.new ≡ shown_or as_receiver told receiver.old }
+fn write(receiver: &mut VfReceiver, answer: Result<Receiver, u32>) -> u32
+    ensures status { result ≡ status_of_answer answer }
+    ensures receiver { receiver.new ≡ shown_or as_receiver answer receiver.old }
 {
-    match told {
+    match answer {
         Ok(known) => {
             *receiver = VfReceiver::of(&known);
             OK

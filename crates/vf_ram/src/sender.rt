@@ -2,10 +2,11 @@
 ghost use Rattle.std.specs.Prelude.{◌≡◌, [], List};
 ghost use Rattle.rh_defs.specs.Chain.{Granted, outcome_of, result_or};
 ghost use Rattle.rh_defs.specs.declared.transfer.Outgoing.{Outgoing};
-ghost use Rattle.vf_ram.specs.SenderCalls.{ack_asks, bounce_told, cancel_told, failed_told, fetch_asks, load_ack_asks};
-ghost use Rattle.vf_ram.specs.SenderCalls.{loaded_told, offer_told, part_told, saved_told, sent_told, source_told};
+ghost use Rattle.vf_ram.specs.SenderCalls.{ack_asks, bounce_answer, cancel_answer, failed_answer, fetch_asks};
+ghost use Rattle.vf_ram.specs.SenderCalls.{load_ack_asks, loaded_answer, offer_answer, part_answer, saved_answer};
+ghost use Rattle.vf_ram.specs.SenderCalls.{sent_answer, source_answer};
 ghost use Rattle.vf_ram.specs.SenderWords.{as_part, as_send_action, as_sender};
-ghost use Rattle.vf_ram.specs.WithStatus.{by_rules as by_rules_of, shown_or, status_of as status_of_told};
+ghost use Rattle.vf_ram.specs.WithStatus.{by_rules as by_rules_of, shown_or, status_of as status_of_answer};
 
 use crate::sender_words::{VfPart, VfSendAction, VfSender};
 use crate::status::{OK, by_rules, read_anchor, wanted};
@@ -30,15 +31,15 @@ pub extern "C" fn vf_sender_offer(
     recipient: u32,
     anchor: u32,
 ) -> u32
-    ensures status { result ≡ status_of_told (offer_told sender.old id recipient anchor) }
-    ensures sender { sender.new ≡ shown_or as_sender (offer_told sender.old id recipient anchor) sender.old }
+    ensures status { result ≡ status_of_answer (offer_answer sender.old id recipient anchor) }
+    ensures sender { sender.new ≡ shown_or as_sender (offer_answer sender.old id recipient anchor) sender.old }
 {
-    let told = offered(sender, id, recipient, anchor);
-    write(sender, told)
+    let answer = offered(sender, id, recipient, anchor);
+    write(sender, answer)
 }
 
 fn offered(sender: &VfSender, id: u32, recipient: u32, anchor: u32) -> Result<Sender, u32>
-    ensures { result ≡ offer_told sender.now id recipient anchor }
+    ensures { result ≡ offer_answer sender.now id recipient anchor }
 {
     let mut known = sender.read()?;
     let anchor = read_anchor(anchor)?;
@@ -57,7 +58,7 @@ pub extern "C" fn vf_sender_on_fetch(
     length: u32,
     action: &mut VfSendAction,
 ) -> u32
-    ensures status { result ≡ status_of_told (fetch_asks sender.now from my_ref your_ref buffer length) }
+    ensures status { result ≡ status_of_answer (fetch_asks sender.now from my_ref your_ref buffer length) }
     ensures action { action.new
         ≡ shown_or as_send_action (fetch_asks sender.now from my_ref your_ref buffer length) action.old }
 {
@@ -79,7 +80,7 @@ pub extern "C" fn vf_sender_on_ack(
     your_ref: u32,
     action: &mut VfSendAction,
 ) -> u32
-    ensures status { result ≡ status_of_told (ack_asks sender.now from my_ref your_ref) }
+    ensures status { result ≡ status_of_answer (ack_asks sender.now from my_ref your_ref) }
     ensures action { action.new ≡ shown_or as_send_action (ack_asks sender.now from my_ref your_ref) action.old }
 {
     match sender.read() {
@@ -99,7 +100,7 @@ pub extern "C" fn vf_sender_on_load_ack(
     your_ref: u32,
     action: &mut VfSendAction,
 ) -> u32
-    ensures status { result ≡ status_of_told (load_ack_asks sender.now from your_ref) }
+    ensures status { result ≡ status_of_answer (load_ack_asks sender.now from your_ref) }
     ensures action { action.new ≡ shown_or as_send_action (load_ack_asks sender.now from your_ref) action.old }
 {
     match sender.read() {
@@ -122,8 +123,8 @@ fn show(asked: Option<SendAction>, action: &mut VfSendAction) -> u32
 /// Tells which bytes of a source of so many an action to transmit sends.
 #[unsafe(no_mangle)]
 pub extern "C" fn vf_sender_part(action: &VfSendAction, size: u32, part: &mut VfPart) -> u32
-    ensures status { result ≡ status_of_told (part_told action.now size) }
-    ensures part { part.new ≡ shown_or as_part (part_told action.now size) part.old }
+    ensures status { result ≡ status_of_answer (part_answer action.now size) }
+    ensures part { part.new ≡ shown_or as_part (part_answer action.now size) part.old }
 {
     match part_of(action, size) {
         Ok(bytes) => {
@@ -135,7 +136,7 @@ pub extern "C" fn vf_sender_part(action: &VfSendAction, size: u32, part: &mut Vf
 }
 
 fn part_of(action: &VfSendAction, size: u32) -> Result<Part, u32>
-    ensures { result ≡ part_told action.now size }
+    ensures { result ≡ part_answer action.now size }
 {
     Ok(part(&action.transmit()?, size))
 }
@@ -148,15 +149,15 @@ pub extern "C" fn vf_sender_sent(
     size: u32,
     last: u32,
 ) -> u32
-    ensures status { result ≡ status_of_told (sent_told sender.old action.now size last) }
-    ensures sender { sender.new ≡ shown_or as_sender (sent_told sender.old action.now size last) sender.old }
+    ensures status { result ≡ status_of_answer (sent_answer sender.old action.now size last) }
+    ensures sender { sender.new ≡ shown_or as_sender (sent_answer sender.old action.now size last) sender.old }
 {
-    let told = sent(sender, action, size, last);
-    write(sender, told)
+    let answer = sent(sender, action, size, last);
+    write(sender, answer)
 }
 
 fn sent(sender: &VfSender, action: &VfSendAction, size: u32, last: u32) -> Result<Sender, u32>
-    ensures { result ≡ sent_told sender.now action.now size last }
+    ensures { result ≡ sent_answer sender.now action.now size last }
 {
     let mut known = sender.read()?;
     let action = action.transmit()?;
@@ -167,15 +168,15 @@ fn sent(sender: &VfSender, action: &VfSendAction, size: u32, last: u32) -> Resul
 /// The source became a file, and the DataLoad with the ref says so. (Message_DataLoad.)
 #[unsafe(no_mangle)]
 pub extern "C" fn vf_sender_saved(sender: &mut VfSender, action: &VfSendAction, last: u32) -> u32
-    ensures status { result ≡ status_of_told (saved_told sender.old action.now last) }
-    ensures sender { sender.new ≡ shown_or as_sender (saved_told sender.old action.now last) sender.old }
+    ensures status { result ≡ status_of_answer (saved_answer sender.old action.now last) }
+    ensures sender { sender.new ≡ shown_or as_sender (saved_answer sender.old action.now last) sender.old }
 {
-    let told = saved(sender, action, last);
-    write(sender, told)
+    let answer = saved(sender, action, last);
+    write(sender, answer)
 }
 
 fn saved(sender: &VfSender, action: &VfSendAction, last: u32) -> Result<Sender, u32>
-    ensures { result ≡ saved_told sender.now action.now last }
+    ensures { result ≡ saved_answer sender.now action.now last }
 {
     let mut known = sender.read()?;
     let action = action.save_file()?;
@@ -186,15 +187,15 @@ fn saved(sender: &VfSender, action: &VfSendAction, last: u32) -> Result<Sender, 
 /// All bytes of the source were loaded, which are so many.
 #[unsafe(no_mangle)]
 pub extern "C" fn vf_sender_loaded(sender: &mut VfSender, action: &VfSendAction, size: u32) -> u32
-    ensures status { result ≡ status_of_told (loaded_told sender.old action.now size) }
-    ensures sender { sender.new ≡ shown_or as_sender (loaded_told sender.old action.now size) sender.old }
+    ensures status { result ≡ status_of_answer (loaded_answer sender.old action.now size) }
+    ensures sender { sender.new ≡ shown_or as_sender (loaded_answer sender.old action.now size) sender.old }
 {
-    let told = loaded(sender, action, size);
-    write(sender, told)
+    let answer = loaded(sender, action, size);
+    write(sender, answer)
 }
 
 fn loaded(sender: &VfSender, action: &VfSendAction, size: u32) -> Result<Sender, u32>
-    ensures { result ≡ loaded_told sender.now action.now size }
+    ensures { result ≡ loaded_answer sender.now action.now size }
 {
     let mut known = sender.read()?;
     let x = action.finish()?;
@@ -205,15 +206,15 @@ fn loaded(sender: &VfSender, action: &VfSendAction, size: u32) -> Result<Sender,
 /// The action was refused: its transfer failed.
 #[unsafe(no_mangle)]
 pub extern "C" fn vf_sender_failed(sender: &mut VfSender, action: &VfSendAction) -> u32
-    ensures status { result ≡ status_of_told (failed_told sender.old action.now) }
-    ensures sender { sender.new ≡ shown_or as_sender (failed_told sender.old action.now) sender.old }
+    ensures status { result ≡ status_of_answer (failed_answer sender.old action.now) }
+    ensures sender { sender.new ≡ shown_or as_sender (failed_answer sender.old action.now) sender.old }
 {
-    let told = failed(sender, action);
-    write(sender, told)
+    let answer = failed(sender, action);
+    write(sender, answer)
 }
 
 fn failed(sender: &VfSender, action: &VfSendAction) -> Result<Sender, u32>
-    ensures { result ≡ failed_told sender.now action.now }
+    ensures { result ≡ failed_answer sender.now action.now }
 {
     let mut known = sender.read()?;
     let action = action.read()?;
@@ -225,9 +226,9 @@ fn failed(sender: &VfSender, action: &VfSendAction) -> Result<Sender, u32>
 /// (User_Message_Acknowledge.)
 #[unsafe(no_mangle)]
 pub extern "C" fn vf_sender_on_bounce(sender: &mut VfSender, last: u32, known: &mut bool) -> u32
-    ensures status { result ≡ status_of_told (bounce_told sender.old last) }
-    ensures sender { sender.new ≡ shown_or (λ p. as_sender p.1) (bounce_told sender.old last) sender.old }
-    ensures known { known.new ≡ shown_or (λ p. p.0) (bounce_told sender.old last) known.old }
+    ensures status { result ≡ status_of_answer (bounce_answer sender.old last) }
+    ensures sender { sender.new ≡ shown_or (λ p. as_sender p.1) (bounce_answer sender.old last) sender.old }
+    ensures known { known.new ≡ shown_or (λ p. p.0) (bounce_answer sender.old last) known.old }
 {
     match sender.read() {
         Ok(mut records) => {
@@ -242,15 +243,15 @@ pub extern "C" fn vf_sender_on_bounce(sender: &mut VfSender, last: u32, known: &
 /// Gives an open transfer up: the one with the id, with 0 for it the first.
 #[unsafe(no_mangle)]
 pub extern "C" fn vf_sender_cancel(sender: &mut VfSender, id: u32) -> u32
-    ensures status { result ≡ status_of_told (cancel_told sender.old id) }
-    ensures sender { sender.new ≡ shown_or as_sender (cancel_told sender.old id) sender.old }
+    ensures status { result ≡ status_of_answer (cancel_answer sender.old id) }
+    ensures sender { sender.new ≡ shown_or as_sender (cancel_answer sender.old id) sender.old }
 {
-    let told = cancelled(sender, id);
-    write(sender, told)
+    let answer = cancelled(sender, id);
+    write(sender, answer)
 }
 
 fn cancelled(sender: &VfSender, id: u32) -> Result<Sender, u32>
-    ensures { result ≡ cancel_told sender.now id }
+    ensures { result ≡ cancel_answer sender.now id }
 {
     let mut known = sender.read()?;
     let ended = known.cancel(wanted(id));
@@ -260,8 +261,8 @@ fn cancelled(sender: &VfSender, id: u32) -> Result<Sender, u32>
 /// Tells whether the anchor's block is the source of an open transfer.
 #[unsafe(no_mangle)]
 pub extern "C" fn vf_sender_is_source(sender: &VfSender, anchor: u32, is_source: &mut bool) -> u32
-    ensures status { result ≡ status_of_told (source_told sender.now anchor) }
-    ensures answer { is_source.new ≡ shown_or (λ b. b) (source_told sender.now anchor) is_source.old }
+    ensures status { result ≡ status_of_answer (source_answer sender.now anchor) }
+    ensures answer { is_source.new ≡ shown_or (λ b. b) (source_answer sender.now anchor) is_source.old }
 {
     match source(sender, anchor) {
         Ok(holds) => {
@@ -273,7 +274,7 @@ pub extern "C" fn vf_sender_is_source(sender: &VfSender, anchor: u32, is_source:
 }
 
 fn source(sender: &VfSender, anchor: u32) -> Result<bool, u32>
-    ensures { result ≡ source_told sender.now anchor }
+    ensures { result ≡ source_answer sender.now anchor }
 {
     let known = sender.read()?;
     Ok(known.is_source(read_anchor(anchor)?))
@@ -290,11 +291,11 @@ fn known_after(known: Sender, ended: Result<(), Refusal>) -> Result<Sender, u32>
 }
 
 /// Writes the struct anew, where there is a sender.
-fn write(sender: &mut VfSender, told: Result<Sender, u32>) -> u32
-    ensures status { result ≡ status_of_told told }
-    ensures sender { sender.new ≡ shown_or as_sender told sender.old }
+fn write(sender: &mut VfSender, answer: Result<Sender, u32>) -> u32
+    ensures status { result ≡ status_of_answer answer }
+    ensures sender { sender.new ≡ shown_or as_sender answer sender.old }
 {
-    match told {
+    match answer {
         Ok(known) => {
             *sender = VfSender::of(&known);
             OK

@@ -18,13 +18,13 @@ pub record ToldText (text : List ℕ) (bad : Bool) (status : ℕ) (old new : Lis
 pub record MapTold (marked : Bool) (p : Place) (script : List ℕ) (status : ℕ) (old new : List ℕ) (needed : ℕ) : Type 0 where
   pub text : List ℕ
   pub map : IsMap marked p (read_lines script) text
-  pub told : ToldText text (has_bad_line script) status old new needed
+  pub given : ToldText text (has_bad_line script) status old new needed
 
 -- that text is the sheet of a script with a name, over a desk
 pub record SheetTold (marked : Bool) (name : List ℕ) (d : Desk) (script : List ℕ) (status : ℕ) (old new : List ℕ) (needed : ℕ) : Type 0 where
   pub text : List ℕ
   pub sheet : IsSheet marked name d (read_lines script) text
-  pub told : ToldText text (has_bad_line script) status old new needed
+  pub given : ToldText text (has_bad_line script) status old new needed
 
 -- nothing was written, and nothing was said to be needed
 pub record Untouched (status wanted : ℕ) (old new : List ℕ) (before after : ℕ) : Type 0 where

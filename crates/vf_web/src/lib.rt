@@ -43,7 +43,7 @@ pub extern "C" fn vf_run(
     ensures refused { let refusal = lent_status pages (length pool.old) (length numbers.old)
         (length script.now) files.now in
         refusal ≢ 0 → Untouched result refusal text.old text.new needed.old needed.new }
-    ensures told { lent_status pages (length pool.old) (length numbers.old) (length script.now) files.now ≡ 0 →
+    ensures text { lent_status pages (length pool.old) (length numbers.old) (length script.now) files.now ≡ 0 →
         ToldText (script_text (start pages (files_of files.now)) script.now)
         (has_bad_line script.now) result text.old text.new needed.new }
 {
@@ -70,7 +70,7 @@ pub extern "C" fn vf_map(
     ensures refused { let refusal = lent_status pages (length pool.old) (length numbers.old)
         (length script.now) files.now in
         refusal ≢ 0 → Untouched result refusal text.old text.new needed.old needed.new }
-    ensures told { lent_status pages (length pool.old) (length numbers.old) (length script.now) files.now ≡ 0 →
+    ensures text { lent_status pages (length pool.old) (length numbers.old) (length script.now) files.now ≡ 0 →
         MapTold (not (marked == 0)) (map_start pages
         (files_of files.now)) script.now result text.old text.new needed.new }
 {
@@ -99,7 +99,7 @@ pub extern "C" fn vf_draw(
     ensures refused { let refusal = lent_status pages (length pool.old) (length numbers.old)
         (length script.now) files.now in
         refusal ≢ 0 → Untouched result refusal text.old text.new needed.old needed.new }
-    ensures told { lent_status pages (length pool.old) (length numbers.old) (length script.now) files.now ≡ 0 →
+    ensures text { lent_status pages (length pool.old) (length numbers.old) (length script.now) files.now ≡ 0 →
         SheetTold (not (marked == 0)) name.now (start pages
         (files_of files.now)) script.now result text.old text.new needed.new }
 {

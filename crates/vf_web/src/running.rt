@@ -28,7 +28,7 @@ pub fn replies<S: Store + Drop, F: NamedFiles + Drop>(
     requires fresh { S.memory store ≡ fresh (S.memory store).pages }
     requires least { MIN_PAGES ≤ (S.memory store).pages }
     requires most { (S.memory store).pages ≤ MAX_PAGES }
-    ensures told { ToldText (script_text (start (S.memory store).pages (F.contents files)) script.now)
+    ensures text { ToldText (script_text (start (S.memory store).pages (F.contents files)) script.now)
         (has_bad_line script.now) result text.old text.new needed.new }
 {
     let room = text.len();
@@ -50,7 +50,7 @@ pub fn map<S: Sited + Drop, F: NamedFiles + Drop>(
     requires least { MIN_PAGES ≤ (S.memory store).pages }
     requires most { (S.memory store).pages ≤ MAX_PAGES }
     requires short { length script.now ≤ LONGEST_SCRIPT }
-    ensures told { MapTold marked (map_start (S.memory store).pages
+    ensures text { MapTold marked (map_start (S.memory store).pages
         (F.contents files)) script.now result text.old text.new needed.new }
 {
     let room = text.len();
@@ -73,7 +73,7 @@ pub fn sheet<S: Sited + Drop, F: NamedFiles + Drop>(
     requires least { MIN_PAGES ≤ (S.memory store).pages }
     requires most { (S.memory store).pages ≤ MAX_PAGES }
     requires short { length script.now ≤ LONGEST_SCRIPT }
-    ensures told { SheetTold marked name.now (start (S.memory store).pages
+    ensures text { SheetTold marked name.now (start (S.memory store).pages
         (F.contents files)) script.now result text.old text.new needed.new }
 {
     let room = text.len();

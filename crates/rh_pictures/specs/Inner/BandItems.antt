@@ -5,8 +5,8 @@ use Rattle.rh_defs.specs.Messages.{Parcel, action_of}
 use Rattle.rh_defs.specs.Heap.{Segment, Heap, place_after}
 use Rattle.rh_defs.specs.declared.message.MessageItem.{MessageItem}
 use Rattle.rh_figure.specs.Phrases.{Text}
-use Rattle.rh_scene.specs.declared.message_list.Place.{Place}
-use Rattle.rh_scene.specs.declared.message_list.Place.TheVariants.{Held, Before, Last}
+use Rattle.rh_scene.specs.declared.message_list.MessagePlace.{MessagePlace}
+use Rattle.rh_scene.specs.declared.message_list.MessagePlace.TheVariants.{Held, Before, Last}
 
 -- a segment begins at the place of a heap that may be there
 pub record HasSegment (h : Option Heap) (place : ℕ) (segment : Segment) : Type 0 where
@@ -27,7 +27,7 @@ pub record IsItemOf (m : MessageItem) (p : Parcel) : Type 0 where
   pub code : m.code ≡ p.code
 
 -- where a message stands in its chain
-abbrev pub place_seen : Place → Text
+abbrev pub place_seen : MessagePlace → Text
 place_seen Held = codes "held"
 place_seen (Before next) = codes "then " ++ decimal next
 place_seen Last = codes "none behind"

@@ -62,7 +62,7 @@ impl<D: Drawn> Mapper<D> {
     /// Shows a line that asks for nothing, and notes whether it marks the next command.
     fn skip<P: Pen>(&mut self, line: &[u8], pen: &mut P)
         requires { self.old.lines + 1 < 2 ^ 32 }
-        ensures told { Offers D.desk self.old line.now (Ok None) self.new (P.offered pen.old) (P.offered pen.new) }
+        ensures drew { Offers D.desk self.old line.now (Ok None) self.new (P.offered pen.old) (P.offered pen.new) }
         ensures lines { self.new.lines ≡ self.old.lines + 1 }
     {
         let wanted = self.count_line();
@@ -78,7 +78,7 @@ impl<D: Drawn> Mapper<D> {
     fn carry_out<P: Pen>(&mut self, line: &[u8], command: &Command, pen: &mut P)
         requires in_range { IsTrue (in_range command.now) }
         requires room { self.old.lines + 1 < 2 ^ 32 }
-        ensures told { Offers D.desk self.old line.now (Ok (Some command.now)) self.new (P.offered pen.old)
+        ensures drew { Offers D.desk self.old line.now (Ok (Some command.now)) self.new (P.offered pen.old)
             (P.offered pen.new) }
         ensures lines { self.new.lines ≡ self.old.lines + 1 }
     {
@@ -104,7 +104,7 @@ impl<D: Drawn> Mapper<D> {
     /// Shows a line that is bad, where it is to be shown.
     fn refuse<P: Pen>(&mut self, line: &[u8], fault: &LineFault, pen: &mut P)
         requires { self.old.lines + 1 < 2 ^ 32 }
-        ensures told { Offers D.desk self.old line.now (Err fault.now) self.new (P.offered pen.old)
+        ensures drew { Offers D.desk self.old line.now (Err fault.now) self.new (P.offered pen.old)
             (P.offered pen.new) }
         ensures lines { self.new.lines ≡ self.old.lines + 1 }
     {

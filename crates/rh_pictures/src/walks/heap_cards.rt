@@ -33,8 +33,8 @@ use rh_figure::limits::{CARD_BYTES, MOST_CARDS};
 use rh_lines::Pen;
 use rh_map::{CardBlock, CardMessage, ChainPlace};
 use rh_scene::{
-    HeapOf, Place, Sight, Step, heap_address, is_fresh_block, is_new_ref, message_in, place_behind,
-    place_of,
+    HeapOf, MessagePlace, Sight, Step, heap_address, is_fresh_block, is_new_ref, message_in,
+    place_behind, place_of,
 };
 
 /// A heap whose blocks have cards, with the handle of its task and the records of its transfers that come in; 0 and
@@ -359,12 +359,12 @@ fn show_message<S: Sight, A: CardArtist, P: Pen>(
 }
 
 /// A message's place, as a card has it.
-fn chain_place(place: Place) -> ChainPlace
+fn chain_place(place: MessagePlace) -> ChainPlace
     ensures { place_text result ≡ place_seen place }
 {
     match place {
-        Place::Held => ChainPlace::Held,
-        Place::Before(next) => ChainPlace::Before(next),
-        Place::Last => ChainPlace::Last,
+        MessagePlace::Held => ChainPlace::Held,
+        MessagePlace::Before(next) => ChainPlace::Before(next),
+        MessagePlace::Last => ChainPlace::Last,
     }
 }

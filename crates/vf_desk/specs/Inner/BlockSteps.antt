@@ -8,14 +8,14 @@ use Rattle.rh_tasks.specs.Shown.{Shown}
 use Rattle.vf_desk.specs.declared.call_outcome.CallOutcome.{CallOutcome}
 use Rattle.vf_desk.specs.declared.block_edits.BlockEdit.{BlockEdit}
 use Rattle.vf_desk.specs.declared.block_edits.BlockEdit.TheVariants as asked
-use Rattle.vf_desk.specs.declared.block_reads.Place.{Place}
-use Rattle.vf_desk.specs.declared.block_reads.Place.TheVariants as place
+use Rattle.vf_desk.specs.declared.block_reads.Lookup.{Lookup}
+use Rattle.vf_desk.specs.declared.block_reads.Lookup.TheVariants as place
 use Rattle.vf_desk.specs.BlockEdits.{Edit, block_edit, called_by, edited_with, module_edit, transfer_edit}
 use Rattle.vf_desk.specs.BlockReads.{Reading, anchor_reading, block_reading, module_reading}
 use Rattle.vf_desk.specs.CallOutcome.{status_of}
 
 -- n bytes of the block at a place, from an offset on
-abbrev pub reading_of : Place → ℕ → ℕ → Option Reading
+abbrev pub reading_of : Lookup → ℕ → ℕ → Option Reading
 reading_of (place.Anchored name anchor) offset n = anchor_reading name.now anchor offset n
 reading_of (place.Addressed name address) offset n = block_reading name.now address offset n
 reading_of (place.InModule address) offset n = module_reading address offset n

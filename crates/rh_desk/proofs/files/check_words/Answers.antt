@@ -6,28 +6,28 @@ use Rattle.rh_desk.proofs.files.check_words.Goals as goal
 pub loop-word-init : goal.loop-word-init
 loop-word-init g c = record { good = good-none; named = ap (map (λ file. file.0)) c.new-seen.ensures; quiet = refl }
 
-pub returns-in_default-clause-told : goal.returns-in_default-clause-told
-returns-in_default-clause-told g c =
+pub returns-in_default-clause-errors : goal.returns-in_default-clause-errors
+returns-in_default-clause-errors g c =
     rw (← c.loop-word.invariant.quiet)
     (inr (
       _,
       c.tell_bad_word.ensures.ending,
       bad-lost _ _ _ c.loop-word-test.true c.in_default.ensures c.loop-word.invariant.good,
-      c.tell_bad_word.ensures.told,
+      c.tell_bad_word.ensures.errors,
     ))
 
-pub returns-then-contains-clause-told : goal.returns-then-contains-clause-told
-returns-then-contains-clause-told g c =
+pub returns-then-contains-clause-errors : goal.returns-then-contains-clause-errors
+returns-then-contains-clause-errors g c =
     rw (← c.loop-word.invariant.quiet)
     (inr (
       _,
       c.tell_bad_word-then-contains.ensures.ending,
       bad-given _ _ _ _ _ _ c.loop-word-test.true c.in-Some.ensures c.if-contains.ensures c.loop-word.invariant.named c.loop-word.invariant.good,
-      c.tell_bad_word-then-contains.ensures.told,
+      c.tell_bad_word-then-contains.ensures.errors,
     ))
 
-pub returns-then-is_err-clause-told : goal.returns-then-is_err-clause-told
-returns-then-is_err-clause-told g c = rw (← c.loop-word.invariant.quiet) (inl (c.ended.ensures.ending, c.ended.ensures.told NoMemory refl))
+pub returns-then-is_err-clause-errors : goal.returns-then-is_err-clause-errors
+returns-then-is_err-clause-errors g c = rw (← c.loop-word.invariant.quiet) (inl (c.ended.ensures.ending, c.ended.ensures.errors NoMemory refl))
 
 pub loop-word-preserved : goal.loop-word-preserved
 loop-word-preserved g c = record {

@@ -12,40 +12,40 @@ loop-word-init g c =
 pub returns-in_default-clause-wrong : goal.returns-in_default-clause-wrong
 returns-in_default-clause-wrong g c = λ ending. (_, bad-lost _ _ _ c.loop-word-test.true c.in_default.ensures c.loop-word.invariant.good)
 
-pub returns-in_default-clause-told : goal.returns-in_default-clause-told
-returns-in_default-clause-told g c =
+pub returns-in_default-clause-errors : goal.returns-in_default-clause-errors
+returns-in_default-clause-errors g c =
     rw (← c.loop-word.invariant.quiet)
     (inl (inr (
       _,
       c.tell_bad_word.ensures.ending,
       bad-lost _ _ _ c.loop-word-test.true c.in_default.ensures c.loop-word.invariant.good,
-      c.tell_bad_word.ensures.told,
+      c.tell_bad_word.ensures.errors,
     )))
 
-pub returns-in_err-bytes-clause-told : goal.returns-in_err-bytes-clause-told
-returns-in_err-bytes-clause-told g c =
+pub returns-in_err-bytes-clause-errors : goal.returns-in_err-bytes-clause-errors
+returns-in_err-bytes-clause-errors g c =
     rw (← c.loop-word.invariant.quiet)
     (at-err _ _ _ c.from_residual.ensures.1 (lost-file g.R.File.Read.remaining _ _ _ _ _ _ _ _ c.loop-word-test.true c.in-Some.ensures
-    c.in_err-bytes.ensures.err c.in_err-bytes.ensures.told))
+    c.in_err-bytes.ensures.err c.in_err-bytes.ensures.errors))
 
 pub returns-then-contains-clause-wrong : goal.returns-then-contains-clause-wrong
 returns-then-contains-clause-wrong g c = λ ending.
     (_, bad-given _ _ _ _ _ _ c.loop-word-test.true c.in-Some.ensures c.if-contains.ensures c.loop-word.invariant.named c.loop-word.invariant.good)
 
-pub returns-then-contains-clause-told : goal.returns-then-contains-clause-told
-returns-then-contains-clause-told g c =
+pub returns-then-contains-clause-errors : goal.returns-then-contains-clause-errors
+returns-then-contains-clause-errors g c =
     rw (← (c.in_ok-bytes.ensures.quiet ∙ c.loop-word.invariant.quiet))
     (inl (inr (
       _,
       c.tell_bad_word-then-contains.ensures.ending,
       bad-given _ _ _ _ _ _ c.loop-word-test.true c.in-Some.ensures c.if-contains.ensures c.loop-word.invariant.named c.loop-word.invariant.good,
-      c.tell_bad_word-then-contains.ensures.told,
+      c.tell_bad_word-then-contains.ensures.errors,
     )))
 
-pub returns-then-is_err-clause-told : goal.returns-then-is_err-clause-told
-returns-then-is_err-clause-told g c =
+pub returns-then-is_err-clause-errors : goal.returns-then-is_err-clause-errors
+returns-then-is_err-clause-errors g c =
     rw (← (c.in_ok-bytes.ensures.quiet ∙ c.loop-word.invariant.quiet))
-    (inl (inl (c.ended.ensures.ending, c.ended.ensures.told NoMemory refl)))
+    (inl (inl (c.ended.ensures.ending, c.ended.ensures.errors NoMemory refl)))
 
 pub loop-word-preserved : goal.loop-word-preserved
 loop-word-preserved g c = record {

@@ -5,15 +5,15 @@ use Rattle.rh_defs.specs.declared.sizes.TheConstants.{LONGEST_FILE}
 use Rattle.rh_desk.specs.declared.reasons.FileLoss.TheVariants.{TooLong}
 use Rattle.rh_desk.proofs.files.read_whole.Goals as goal
 
-pub returns-in-Err-clause-told : goal.returns-in-Err-clause-told
-returns-in-Err-clause-told g c = inr (c.ended.ensures.told NoMemory refl)
+pub returns-in-Err-clause-errors : goal.returns-in-Err-clause-errors
+returns-in-Err-clause-errors g c = inr (c.ended.ensures.errors NoMemory refl)
 
-pub returns-in-Ok-2-clause-told : goal.returns-in-Ok-2-clause-told
-returns-in-Ok-2-clause-told g c =
-    inl (TooLong, too-long g.R.File.Read.remaining _ _ c.new-bytes.ensures.items (search rules) c.in-Ok-2.ensures, c.tell_file.ensures.told)
+pub returns-in-Ok-2-clause-errors : goal.returns-in-Ok-2-clause-errors
+returns-in-Ok-2-clause-errors g c =
+    inl (TooLong, too-long g.R.File.Read.remaining _ _ c.new-bytes.ensures.items (search rules) c.in-Ok-2.ensures, c.tell_file.ensures.errors)
 
-pub returns-clause-told : goal.returns-clause-told
-returns-clause-told g c = inl (_, lost-by g.R.File.Read.remaining _ _ c.of.ensures, c.tell_file-in-Err-2.ensures.told)
+pub returns-clause-errors : goal.returns-clause-errors
+returns-clause-errors g c = inl (_, lost-by g.R.File.Read.remaining _ _ c.of.ensures, c.tell_file-in-Err-2.ensures.errors)
 
 pub returns-in-Ok-clause-whole : goal.returns-in-Ok-clause-whole
 returns-in-Ok-clause-whole g c =

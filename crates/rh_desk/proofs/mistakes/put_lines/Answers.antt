@@ -16,9 +16,9 @@ lines-preserved g c =
     let first = c.first_line.ensures in
     let line = c.first_line.result.0.now in
     let some = some-bytes c.lines.rest.now (sym c.lines-test.ensures) in
-    let told = line-stays c.args.for_script c.lines.was_empty c.lines.rest.now line c.first_line.result.1.now some first.first first.behind
+    let errors = line-stays c.args.for_script c.lines.was_empty c.lines.rest.now line c.first_line.result.1.now some first.first first.behind
     (sym c.is_left_out.ensures ∙ c.if-is_left_out.false) in
     let behind = told_lines c.args.for_script c.is_empty-was_empty.result (text_lines c.first_line.result.1.now) in
     ap (λ z. z ++ behind) c.put_line.ensures ∙ (append_assoc (g.P.Pen.offered c.lines.pen) (line_told line) behind
     ∙ (ap (λ e. g.P.Pen.offered c.lines.pen ++ (line_told line ++ told_lines c.args.for_script e (text_lines c.first_line.result.1.now)))
-    c.is_empty-was_empty.ensures ∙ (ap (λ z. g.P.Pen.offered c.lines.pen ++ z) (sym told) ∙ c.lines.invariant)))
+    c.is_empty-was_empty.ensures ∙ (ap (λ z. g.P.Pen.offered c.lines.pen ++ z) (sym errors) ∙ c.lines.invariant)))

@@ -4,8 +4,8 @@ use Rattle.rh_desk.specs.Telling.{bad_word_text}
 use Rattle.rh_desk.proofs.TellLemmas.{puts_tells}
 use Rattle.rh_desk.proofs.telling.tell_bad_word.Goals as goal
 
-pub returns-clause-told : goal.returns-clause-told
-returns-clause-told g c =
+pub returns-clause-errors : goal.returns-clause-errors
+returns-clause-errors g c =
     let text = bad_word_text c.args.word.now in
     let made = c.new-pen.ensures in
     let offered = c.finish-told.ensures.same ∙ c.put_bad_word.ensures in

@@ -5,9 +5,9 @@ use Rattle.rh_session.specs.declared.status.RunFault.TheVariants.{NoMemory, Writ
 use Rattle.rh_desk.proofs.telling.tell_words_error.Goals as goal
 
 pub returns-in_default-clause-fault : goal.returns-in_default-clause-fault
-returns-in_default-clause-fault g c = λ fault. inl (c.ended.ensures.told NoMemory refl, refl)
+returns-in_default-clause-fault g c = λ fault. inl (c.ended.ensures.errors NoMemory refl, refl)
 
 pub returns-clause-fault : goal.returns-clause-fault
 returns-clause-fault g c = λ fault.
     let shown : (kind_of c.args.error.now ≡ kind.DisplayHelp) ⊎ (kind_of c.args.error.now ≡ kind.DisplayVersion) = search rules in
-    inr (c.ended-in-Err.ensures.told WriteFailed refl, (_, c.in-Err.ensures.err), shown)
+    inr (c.ended-in-Err.ensures.errors WriteFailed refl, (_, c.in-Err.ensures.err), shown)

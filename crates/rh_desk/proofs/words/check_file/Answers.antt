@@ -13,9 +13,9 @@ returns-in-Ok-clause-of_file g c = λ other.
         c.in-Ok.ensures.whole,
         check-over c.args.kind c.as_slice.result.now (vec_items c.in-Ok.bytes) (streams input input _ _ _ _) c.check_bytes.result
             c.as_slice.ensures.value c.check_bytes.ensures.ok c.check_bytes.ensures.status c.check_bytes.ensures.err
-            c.ended.ensures.quiet c.ended.ensures.told,
+            c.ended.ensures.quiet c.ended.ensures.errors,
       ),
     )
 
 pub returns-in-Err-clause-of_file : goal.returns-in-Err-clause-of_file
-returns-in-Err-clause-of_file g c = λ other. (refl, inr (refl, c.in-Err.ensures.err, c.in-Err.ensures.told))
+returns-in-Err-clause-of_file g c = λ other. (refl, inr (refl, c.in-Err.ensures.err, c.in-Err.ensures.errors))

@@ -13,8 +13,8 @@ returns-in-Ok-clause-ends g c =
       c.in-Ok.ensures.whole,
       check-over c.args.kind c.as_slice.result.now (vec_items c.in-Ok.image) (streams before after _ _ _ _) c.check_bytes.result
           c.as_slice.ensures.value c.check_bytes.ensures.ok c.check_bytes.ensures.status c.check_bytes.ensures.err
-          c.ended.ensures.quiet c.ended.ensures.told,
+          c.ended.ensures.quiet c.ended.ensures.errors,
     ))
 
 pub returns-in-Err-clause-ends : goal.returns-in-Err-clause-ends
-returns-in-Err-clause-ends g c = inr (refl, c.in-Err.ensures.err, c.in-Err.ensures.told)
+returns-in-Err-clause-ends g c = inr (refl, c.in-Err.ensures.err, c.in-Err.ensures.errors)

@@ -7,4 +7,4 @@ returns-clause-over g c =
     let drew = c.draw_map.ensures in
     rw c.ended.ensures.ending
     (map-over c.args.marked (start c.args.pages c.args.files) _ c.draw_map.result drew.ok drew.no_memory drew.read_failed drew.read_mapped
-    drew.too_long drew.long_mapped drew.write_failed c.ended.ensures.quiet c.ended.ensures.told)
+    drew.too_long drew.long_mapped drew.write_failed c.ended.ensures.quiet c.ended.ensures.errors)

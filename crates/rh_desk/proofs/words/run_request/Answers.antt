@@ -6,7 +6,7 @@ use Rattle.rh_desk.proofs.words.run_request.Goals as goal
 pub returns-in-Err-read_files-clause-ends : goal.returns-in-Err-read_files-clause-ends
 returns-in-Err-read_files-clause-ends g c =
     rw (← c.in_default.ensures.quiet)
-    (files-fail g.R.File.Read.remaining _ _ _ _ _ _ c.in_default.ensures.good (refl, refl) c.in-Err-read_files.ensures.told)
+    (files-fail g.R.File.Read.remaining _ _ _ _ _ _ c.in_default.ensures.good (refl, refl) c.in-Err-read_files.ensures.errors)
 
 pub returns-then-eq-clause-ends : goal.returns-then-eq-clause-ends
 returns-then-eq-clause-ends g c =
@@ -28,7 +28,7 @@ returns-in-Err-open-clause-ends g c =
     let other : c.args.request.now.script.now ≢ codes "-" = search rules in
     rw (← (c.in-Ok.ensures.quiet ∙ c.in_default.ensures.quiet))
     (script-over g.R.File.Read.remaining _ _ _ _ _ _ _ c.in_default.ensures.good c.in-Ok.ensures.named c.in-Ok.ensures.whole
-    (λ is. absurd (other is)) (λ named. inr ((refl, refl), c.ended.ensures.ending, inr (c.ended.ensures.told NoMemory refl))))
+    (λ is. absurd (other is)) (λ named. inr ((refl, refl), c.ended.ensures.ending, inr (c.ended.ensures.errors NoMemory refl))))
 
 pub returns-clause-ends : goal.returns-clause-ends
 returns-clause-ends g c =
@@ -36,4 +36,4 @@ returns-clause-ends g c =
     rw (← (c.in-Ok.ensures.quiet ∙ c.in_default.ensures.quiet))
     (script-over g.R.File.Read.remaining _ _ _ _ _ _ _ c.in_default.ensures.good c.in-Ok.ensures.named c.in-Ok.ensures.whole
     (λ is. absurd (other is)) (λ named.
-    inr ((refl, refl), c.tell_file.ensures.ending, inl (_, lost-by g.R.File.Read.remaining _ _ c.of.ensures, c.tell_file.ensures.told))))
+    inr ((refl, refl), c.tell_file.ensures.ending, inl (_, lost-by g.R.File.Read.remaining _ _ c.of.ensures, c.tell_file.ensures.errors))))

@@ -5,6 +5,6 @@ use Rattle.rh_desk.proofs.words.words_unread.Goals as goal
 
 pub returns-clause-memory_told : goal.returns-clause-memory_told
 returns-clause-memory_told g c = elim c.if-eq.branch [
-  | then-eq w ↦ λ m. rw w.errors-is (w.ended-ending.ensures.told NoMemory refl)
+  | then-eq w ↦ λ m. rw w.errors-is (w.ended-ending.ensures.errors NoMemory refl)
   | else-eq w ↦ search rules
 ]

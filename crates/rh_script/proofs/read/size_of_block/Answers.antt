@@ -20,8 +20,8 @@ returns-in-Ok-clause-refused g c =
     (named_is_slot c.args.name.now c.args.world.now.desk c.recall_spelling.ensures.desk.slots)
     (grind (arith, tests)) c.in-Ok.ensures.ok
 
-pub returns-clause-told : goal.returns-clause-told
-returns-clause-told g c = (size_read c.args.world.now.desk c.args.name.now c.args.anchor _ _ _ c.show.ensures).told
+pub returns-clause-shown : goal.returns-clause-shown
+returns-clause-shown g c = (size_read c.args.world.now.desk c.args.name.now c.args.anchor _ _ _ c.show.ensures).shown
 
 pub returns-clause-size : goal.returns-clause-size
 returns-clause-size g c = (size_read c.args.world.now.desk c.args.name.now c.args.anchor _ _ _ c.show.ensures).size

@@ -12,7 +12,7 @@ unfolding answer_text first_line later_lines
 show_text answer size bytes e = rw e (sym (append-nil (ok (decimal size ∷ hex_words bytes))))
 
 pub returns-in-Ok : goal.returns-in-Ok
-returns-in-Ok g c = rw (← show_text _ _ _ c.in-Ok.ensures.told) c.print_block.ensures
+returns-in-Ok g c = rw (← show_text _ _ _ c.in-Ok.ensures.shown) c.print_block.ensures
 
 pub returns-in-Err : goal.returns-in-Err
 returns-in-Err g c = rw (← refused_text _ _ c.in-Err.ensures.refused) c.put_first_line.ensures

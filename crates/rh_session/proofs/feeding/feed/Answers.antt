@@ -34,7 +34,7 @@ returns-clause-taken g c = λ front begun_open is.
 
 pub returns-clause-rest : goal.returns-clause-rest
 returns-clause-rest g c = λ front begun_open is.
-    on_ok c.finish.result (rest_through c.add.new.self (c.loop-end.invariant.went front begun_open is).told
+    on_ok c.finish.result (rest_through c.add.new.self (c.loop-end.invariant.went front begun_open is).meets
     (λ k lt. c.in_default.ensures k (omega arith) lt) c.add.ensures.value)
 
 pub returns-clause-stopped : goal.returns-clause-stopped

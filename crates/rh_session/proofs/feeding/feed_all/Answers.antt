@@ -55,7 +55,7 @@ returns-in-Err-feed-clause-write_failed g c = λ e.
     let made = c.new-pen.ensures in
     let going = c.loop-turn.invariant.going in
     let stopped = c.in-Err-feed.ensures.stopped in
-    let some = stopped (unended going.told.bytes) (ended-unended going.told.bytes) going.told.line_is in
+    let some = stopped (unended going.meets.bytes) (ended-unended going.meets.bytes) going.meets.line_is in
     let same = sym ((wrote c.new-pen.result c.feed.new.pen _ (offers_more going some)).same_reference ∙ made.same_reference) in
     let p = fed_until {last = g.T.LineTaker.took_rest} (g.R.Source.input c.read.new.self) _ going c.in-Ok.ensures.left.0 stopped
     (told_by Breaks c.new-pen.result c.feed.new.pen _ _ made.begun made.text c.in-Err-feed.ensures.written.err) in

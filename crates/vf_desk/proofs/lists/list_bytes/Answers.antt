@@ -21,4 +21,4 @@ returns c =
     answered_part _ _ bytes (take count to) c.show-read.new.to 0 c.show-read.ensures
     (reads_part c.args.world.now.desk c.args.name.now c.args.anchor 0 (length (take count to))) (omega (arith, long, of_size, c.min-count.ensures)) in
     bytes-filled bytes to c.show-read.new.to count (c.min-count.ensures ∙ ap (min (length to)) of_size) (read ∙ ap (λ n. take n bytes) long)
-    ∙ sym (ap (λ l. filled_front l to) (shown-bytes _ _ _ size.told))
+    ∙ sym (ap (λ l. filled_front l to) (shown-bytes _ _ _ size.shown))

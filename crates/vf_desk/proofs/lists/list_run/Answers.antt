@@ -8,15 +8,15 @@ returns-in-Ok-clause-list c =
     rw (← segments_read c.args.world.now.desk c.args.name.now c.args.place _ c.in-Ok.ensures.ok, ← c.deref.ensures.0)
     c.put_run.ensures.list
 
-pub returns-in-Ok-clause-told : goal.returns-in-Ok-clause-told
-returns-in-Ok-clause-told c =
+pub returns-in-Ok-clause-run : goal.returns-in-Ok-clause-run
+returns-in-Ok-clause-run c =
     rw (← segments_read c.args.world.now.desk c.args.name.now c.args.place _ c.in-Ok.ensures.ok, ← c.deref.ensures.0)
-    c.put_run.ensures.told
+    c.put_run.ensures.run
 
 pub returns-in-Err-clause-list : goal.returns-in-Err-clause-list
 returns-in-Err-clause-list c =
     rw (← no_segments c.args.world.now.desk c.args.name.now c.args.place _ c.in-Err.ensures.err.0)
     (sym (from-none c.args.at c.args.to.now))
 
-pub returns-in-Err-clause-told : goal.returns-in-Err-clause-told
-returns-in-Err-clause-told c = no_segments c.args.world.now.desk c.args.name.now c.args.place _ c.in-Err.ensures.err.0
+pub returns-in-Err-clause-run : goal.returns-in-Err-clause-run
+returns-in-Err-clause-run c = no_segments c.args.world.now.desk c.args.name.now c.args.place _ c.in-Err.ensures.err.0

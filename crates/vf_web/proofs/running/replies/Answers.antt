@@ -16,4 +16,4 @@ returns g c =
     let before = e.before ∙ c.new-writer.ensures.before in
     let text = e.text_is in
     let status = e.status_is in
-    record { told = record { status_is = grind (arith, tests); written = grind arith; length_is = grind arith } }
+    record { text = record { status_is = grind (arith, tests); written = grind arith; length_is = grind arith } }

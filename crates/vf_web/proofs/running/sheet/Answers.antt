@@ -18,6 +18,6 @@ returns g c =
     let text = e.text_is in
     let status = e.status_is in
     record {
-      told =
-          record { text = m.text; sheet = m.sheet; told = record { status_is = grind (arith, tests); written = grind arith; length_is = grind arith } };
+      text =
+          record { text = m.text; sheet = m.sheet; given = record { status_is = grind (arith, tests); written = grind arith; length_is = grind arith } };
     }

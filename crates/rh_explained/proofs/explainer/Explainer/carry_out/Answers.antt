@@ -6,9 +6,9 @@ use Rattle.rh_explained.proofs.explainer.Explainer.carry_out.Goals as goal
 pub returns-in_default : goal.returns-in_default
 returns-in_default g c = record {
   text = [];
-  told = record {
+  meets = record {
     desk = c.apply.ensures.desk;
-    told = λ d h. said_other d _ c.args.line.now c.args.command.now c.apply.result (c.apply.ensures.reply d h) c.in_default.not-Refused;
+    said = λ d h. said_other d _ c.args.line.now c.args.command.now c.apply.result (c.apply.ensures.reply d h) c.in_default.not-Refused;
     lines = refl;
     flag = sym (or_false c.args.self.now.has_said);
   };

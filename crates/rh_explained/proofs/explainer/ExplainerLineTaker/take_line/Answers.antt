@@ -7,7 +7,7 @@ use Rattle.rh_explained.proofs.explainer.ExplainerLineTaker.take_line.Goals as g
 pub returns-in-Ok-false-clause-took : goal.returns-in-Ok-false-clause-took
 returns-in-Ok-false-clause-took g c = record {
   text = [];
-  told = line_said c.kept-line.result.now _ _ (rw c.in-Ok-false.field-0-test at c.in-Ok-false.ensures.means) c.kept-line.ensures
+  meets = line_said c.kept-line.result.now _ _ (rw c.in-Ok-false.field-0-test at c.in-Ok-false.ensures.means) c.kept-line.ensures
       (skipped_said c.args.self.now _ c.kept-line.result.now refl);
   offered = sym (append-nil _);
 }
@@ -20,7 +20,7 @@ returns-in-Ok-true-clause-took g c =
 pub returns-in-Err-clause-took : goal.returns-in-Err-clause-took
 returns-in-Err-clause-took g c = record {
   text = bad_line _ c.kept-line.result.now c.in-Err.fault;
-  told = line_said c.kept-line.result.now _ _ c.in-Err.ensures.means c.kept-line.ensures
+  meets = line_said c.kept-line.result.now _ _ c.in-Err.ensures.means c.kept-line.ensures
       (bad_said c.args.self.now _ c.kept-line.result.now c.in-Err.fault c.refuse.ensures.same);
   offered = c.refuse.ensures.said;
 }

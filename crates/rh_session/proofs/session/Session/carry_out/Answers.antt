@@ -11,9 +11,9 @@ pub returns-in-Ask : goal.returns-in-Ask
 unfolding in_range
 returns-in-Ask g c = record {
   text = c.put_answer.ensures.text;
-  told = record {
+  meets = record {
     desk = λ d h. rw (c.in-Ask.is, asked-stays d c.in-Ask.question) h;
-    answer = λ d h. rw (c.in-Ask.is, question-text d c.in-Ask.question (rw c.in-Ask.is at c.requires)) (c.put_answer.ensures.told d h);
+    answer = λ d h. rw (c.in-Ask.is, question-text d c.in-Ask.question (rw c.in-Ask.is at c.requires)) (c.put_answer.ensures.meets d h);
     bad = sym (or_false c.args.self.now.has_bad_line);
   };
   offered = c.put_answer.ensures.offered;
@@ -22,7 +22,7 @@ returns-in-Ask g c = record {
 pub returns-in_default : goal.returns-in_default
 returns-in_default g c = record {
   text = first_line c.apply-reply.result Nothing;
-  told = record {
+  meets = record {
     desk = c.apply-reply.ensures.desk;
     answer = λ d h. rw (
       one-line (step d c.args.self.now.command).0 c.args.self.now.command (step d c.args.self.now.command).1 c.in_default.not-Ask,

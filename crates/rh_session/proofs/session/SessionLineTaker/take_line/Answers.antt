@@ -7,7 +7,7 @@ use Rattle.rh_session.proofs.session.SessionLineTaker.take_line.Goals as goal
 pub returns-in-Ok-false-clause-took : goal.returns-in-Ok-false-clause-took
 returns-in-Ok-false-clause-took g c = record {
   text = [];
-  told = line_answered c.args.line.now _ (rw c.in-Ok-false.field-0-test at c.in-Ok-false.ensures.means)
+  meets = line_answered c.args.line.now _ (rw c.in-Ok-false.field-0-test at c.in-Ok-false.ensures.means)
       (record { desk = λ d h. h; answer = λ d h. refl; bad = sym (or_false c.args.self.now.has_bad_line) });
   offered = sym (append-nil _);
 }
@@ -21,7 +21,7 @@ returns-in-Ok-true-clause-took g c =
 pub returns-in-Err-clause-took : goal.returns-in-Err-clause-took
 returns-in-Err-clause-took g c = record {
   text = fault_text c.in-Err.fault;
-  told = line_answered c.args.line.now _ c.in-Err.ensures.means
+  meets = line_answered c.args.line.now _ c.in-Err.ensures.means
       (record { desk = λ d h. h; answer = λ d h. refl; bad = sym (or_true c.args.self.now.has_bad_line) });
   offered = c.put_fault.ensures;
 }

@@ -9,7 +9,7 @@ returns-then-is_empty g c =
     let bad = c.args.self.now.has_bad_line in
     record {
       text = [];
-      told = record {
+      meets = record {
         answer = sym (rest_kept rest ∙ rest_none rest (sym c.if-is_empty.true ∙ c.is_empty.ensures));
         bad = sym (ap (λ z. bad || not z) (nothing_kept rest ∙ (sym c.is_empty.ensures ∙ c.if-is_empty.true)) ∙ or_false bad);
       };
@@ -22,7 +22,7 @@ returns g c =
     let bad = c.args.self.now.has_bad_line in
     record {
       text = fault_text c.cut_fault.result;
-      told = record {
+      meets = record {
         answer = c.cut_fault.ensures ∙ sym (rest_kept rest);
         bad = sym (ap (λ z. bad || not z) (nothing_kept rest ∙ (sym c.is_empty.ensures ∙ c.if-is_empty.false)) ∙ or_true bad);
       };

@@ -3,8 +3,8 @@ use Rattle.rh_pictures.proofs.ShareLemmas.{is_shared}
 use Rattle.rh_pictures.proofs.MapStepLemmas.{command-text, hidden-command, rest-as, told-command}
 use Rattle.rh_pictures.proofs.map.mapper.Mapper.carry_out.Goals as goal
 
-pub returns-then-and_not-clause-told : goal.returns-then-and_not-clause-told
-returns-then-and_not-clause-told g c =
+pub returns-then-and_not-clause-drew : goal.returns-then-and_not-clause-drew
+returns-then-and_not-clause-drew g c =
     let desk = g.D.Sight.desk in
     let b = c.count_line-wanted.new.self in
     hidden-command desk c.args.self.now b c.args.line.now (g.P.Pen.offered c.args.pen.now) c.count_line-wanted.result c.count_line-wanted.ensures.wanted
@@ -27,7 +27,7 @@ returns g c =
     let text = command-text desk m b c.args.line.now o w was next c.args.command.now s a _ _ test c.answer-reply.ensures.desk c.answer-reply.ensures.reply
     c.new-kept.ensures refl in
     record {
-      told = told-command desk m b c.args.line.now o w was next a _ _ s c.show.ensures.same c.show.ensures.shared c.args.command.now
+      drew = told-command desk m b c.args.line.now o w was next a _ _ s c.show.ensures.same c.show.ensures.shared c.args.command.now
           c.answer-reply.ensures.desk
           (rest-as {b = b} a refl)
           (offered_as o (ap shown_lines text) (c.show.ensures.text (reply_to (desk b.drawn) c.args.command.now) c.answer-reply.ensures.excerpt));

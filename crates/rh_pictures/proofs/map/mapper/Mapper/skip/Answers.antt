@@ -5,8 +5,8 @@ use Rattle.rh_pictures.proofs.ShareLemmas.{is_shared}
 use Rattle.rh_pictures.proofs.MapStepLemmas.{mark-hidden, mark-shown, skipped-none}
 use Rattle.rh_pictures.proofs.map.mapper.Mapper.skip.Goals as goal
 
-pub returns-then-and_not-clause-told : goal.returns-then-and_not-clause-told
-returns-then-and_not-clause-told g c =
+pub returns-then-and_not-clause-drew : goal.returns-then-and_not-clause-drew
+returns-then-and_not-clause-drew g c =
     let m = c.args.self.now in
     let b = c.count_line-wanted.new.self in
     let next = c.count_line-wanted.ensures.next in
@@ -20,8 +20,8 @@ returns-then-and_not-clause-told g c =
     skipped-none g.D.Sight.desk m line o b c.is_wanted-self.result next wanted o _ (is_shared (g.D.Sight.desk b.drawn) c.recall_desk.ensures)
     (sym (append-nil o) ∙ ap (λ z. o ++ written_lines z) (sym lines))
 
-pub returns-clause-told : goal.returns-clause-told
-returns-clause-told g c =
+pub returns-clause-drew : goal.returns-clause-drew
+returns-clause-drew g c =
     let m = c.args.self.now in
     let b = c.count_line-wanted.new.self in
     let next = c.count_line-wanted.ensures.next in

@@ -11,4 +11,4 @@ returns g c =
     let rest = c.args.rest.now in
     let P : Meaning (Option Command) → Type 0 = λ z.
     Offers g.D.Sight.desk c.args.self.now rest z c.refuse.new.self (g.P.Pen.offered c.args.pen.now) (g.P.Pen.offered c.refuse.new.pen) in
-    took-rest rest c.if-is_empty.ensures (subst P (sym c.rest_fault-fault.ensures) c.refuse.ensures.told)
+    took-rest rest c.if-is_empty.ensures (subst P (sym c.rest_fault-fault.ensures) c.refuse.ensures.drew)
