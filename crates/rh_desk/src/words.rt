@@ -73,7 +73,7 @@ pub fn program<R: rt::Files, I: Source, O: Sink, E: Sink>(
         (E.output errors.old) (E.output errors.new)) ending }
 {
     let ending = if words.len() <= 1 {
-        run_told(alloc, Files::new(alloc), PAGES, input, output, errors)
+        run_ending(alloc, Files::new(alloc), PAGES, input, output, errors)
     } else {
         any_words(runtime, alloc, words, input, output, errors)
     };
@@ -88,9 +88,9 @@ pub fn words_unread<E: Sink>(error: &io::Error, errors: &mut E) -> u8
     ensures small { result ≤ 3 }
     ensures memory { error_kind error.now ≡ OutOfMemory → result ≡ 3 }
     ensures other { error_kind error.now ≢ OutOfMemory → result ≡ 2 }
-    ensures memory_told { error_kind error.now ≡ OutOfMemory
+    ensures memory_error { error_kind error.now ≡ OutOfMemory
         → Tells (E.output errors.old) (E.output errors.new) (run_fault_text RunFault.NoMemory) }
-    ensures other_told { error_kind error.now ≢ OutOfMemory
+    ensures other_error { error_kind error.now ≢ OutOfMemory
         → Tells (E.output errors.old) (E.output errors.new) (codes "rh_desk: a word is not text\n") }
 {
     let ending = if error.kind() == io::ErrorKind::OutOfMemory {
@@ -103,7 +103,7 @@ pub fn words_unread<E: Sink>(error: &io::Error, errors: &mut E) -> u8
 }
 
 /// Runs a script over so many pages with these files, and tells the fault that stopped it, if one did.
-fn run_told<I: Source, O: Sink, E: Sink>(
+fn run_ending<I: Source, O: Sink, E: Sink>(
     alloc: Global,
     files: Files,
     pages: u32,
@@ -131,7 +131,7 @@ fn run_told<I: Source, O: Sink, E: Sink>(
 
 /// Explains what went wrong in a script over so many pages with these files, and tells the fault that stopped it, if
 /// one did.
-fn explain_told<I: Source, O: Sink, E: Sink>(
+fn explain_ending<I: Source, O: Sink, E: Sink>(
     alloc: Global,
     files: Files,
     pages: u32,
@@ -152,7 +152,7 @@ fn explain_told<I: Source, O: Sink, E: Sink>(
 }
 
 /// Writes the map of a script over so many pages with these files, and tells the fault that stopped it, if one did.
-fn map_told<I: Source, O: Sink, E: Sink>(
+fn map_ending<I: Source, O: Sink, E: Sink>(
     alloc: Global,
     files: Files,
     pages: u32,
@@ -177,7 +177,7 @@ fn map_told<I: Source, O: Sink, E: Sink>(
 }
 
 /// Writes the sheet of a script over so many pages with these files, and tells the fault that stopped it, if one did.
-fn sheet_told<I: Source, O: Sink, E: Sink>(
+fn sheet_ending<I: Source, O: Sink, E: Sink>(
     alloc: Global,
     files: Files,
     request: &RunRequest<'_, '_>,
@@ -216,7 +216,7 @@ fn sheet_name(script: &str) -> &[u8]
 }
 
 /// Writes what is to be written of a script, and tells the fault that stopped it, if one did.
-fn show_told<I: Source, O: Sink, E: Sink>(
+fn show_ending<I: Source, O: Sink, E: Sink>(
     alloc: Global,
     files: Files,
     request: &RunRequest<'_, '_>,
@@ -232,13 +232,15 @@ fn show_told<I: Source, O: Sink, E: Sink>(
         (E.output errors.old) (E.output errors.new)) result }
 {
     match request.shown {
-        Shown::Replies => run_told(alloc, files, request.pages, script, output, errors),
-        Shown::Explanations => { explain_told(alloc, files, request.pages, script, output, errors) }
+        Shown::Replies => run_ending(alloc, files, request.pages, script, output, errors),
+        Shown::Explanations => {
+            explain_ending(alloc, files, request.pages, script, output, errors)
+        }
         Shown::Map { marked } => {
-            map_told(alloc, files, request.pages, marked, script, output, errors)
+            map_ending(alloc, files, request.pages, marked, script, output, errors)
         }
         Shown::Sheet { marked } => {
-            sheet_told(alloc, files, request, marked, script, output, errors)
+            sheet_ending(alloc, files, request, marked, script, output, errors)
         }
     }
 }
@@ -260,13 +262,13 @@ fn any_words<R: rt::Files, I: Source, O: Sink, E: Sink>(
         (E.output errors.old) (E.output errors.new)) result }
 {
     match kind_asked(words) {
-        Some(kind) => help_told(kind, output, errors),
+        Some(kind) => help_ending(kind, output, errors),
         None => run_words(runtime, alloc, meant(words), input, output, errors),
     }
 }
 
 /// Writes the help of a command of a script, and tells where it can't be written.
-fn help_told<O: Sink, E: Sink>(kind: CommandKind, output: &mut O, errors: &mut E) -> ProgramEnd
+fn help_ending<O: Sink, E: Sink>(kind: CommandKind, output: &mut O, errors: &mut E) -> ProgramEnd
     ensures well { exit_status result ≤ 1 → (O.output output.new).failed ≡ (O.output output.old).failed }
     ensures run { result ≡ ProgramEnd.WrongWords → ⊥ }
     ensures ends { (input : Input) → HelpEnds kind (streams input input (O.output output.old) (O.output output.new)
@@ -344,7 +346,7 @@ fn run_request<R: rt::Files, I: Source, O: Sink, E: Sink>(
         Err(ending) => return ending,
     };
     if request.script == INPUT {
-        return show_told(alloc, files, request, input, output, errors);
+        return show_ending(alloc, files, request, input, output, errors);
     }
     match File::open(runtime, request.script) {
         Ok(file) => show_file(alloc, files, request, file, output, errors),
@@ -372,7 +374,7 @@ fn show_file<F: Read + OpenFile + Drop, O: Sink, E: Sink>(
 {
     let is_folder = is_folder(&file);
     let mut reader = Flagged::new(file);
-    let ending = show_told(alloc, files, request, &mut reader, output, errors);
+    let ending = show_ending(alloc, files, request, &mut reader, output, errors);
     if is_folder && ending == ProgramEnd::Fault {
         tell_folder(errors);
     }

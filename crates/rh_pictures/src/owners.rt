@@ -147,7 +147,7 @@ impl<'a> Named<'a> {
 }
 
 /// That an owner takes these pages.
-pub fn takes_told(named: &Named<'_>, pages: &[u16]) -> Row
+pub fn takes_row(named: &Named<'_>, pages: &[u16]) -> Row
     requires { length pages.now ≤ MAX_PAGES }
     ensures value { result ≡ taken_line (name_seen named.now) pages.now }
     ensures few { length result ≤ 200 }

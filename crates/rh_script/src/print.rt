@@ -46,13 +46,13 @@ pub fn put_reply<S: Store, F: NamedFiles, P: Pen>(
         return put_first_line(reply, pen);
     }
     match command {
-        Command::Ask(question) => print_told(world, question, reply, pen),
+        Command::Ask(question) => print_asked(world, question, reply, pen),
         _ => put_first_line(reply, pen),
     }
 }
 
 /// Writes the reply to a question: with all that the desk answers, where the reply is the first line of that.
-fn print_told<S: Store, F: NamedFiles, P: Pen>(
+fn print_asked<S: Store, F: NamedFiles, P: Pen>(
     world: &World<S, F>,
     question: &Question,
     reply: &Reply,
@@ -63,7 +63,7 @@ fn print_told<S: Store, F: NamedFiles, P: Pen>(
         ++ (if begins (asked world.now.desk question.now) reply.now then answer_text (asked world.now.desk question.now)
         else first_line reply.now Nothing) }
 {
-    if is_told(world, question, reply) {
+    if answers(world, question, reply) {
         put_answer(world, question, pen)
     } else {
         put_first_line(reply, pen)
@@ -71,7 +71,7 @@ fn print_told<S: Store, F: NamedFiles, P: Pen>(
 }
 
 /// Whether the reply has the numbers of what the desk answers.
-fn is_told<S: Store, F: NamedFiles>(world: &World<S, F>, question: &Question, reply: &Reply) -> bool
+fn answers<S: Store, F: NamedFiles>(world: &World<S, F>, question: &Question, reply: &Reply) -> bool
     requires { can_be_asked question.now ≡ true }
     ensures { result ≡ begins (asked world.now.desk question.now) reply.now }
 {

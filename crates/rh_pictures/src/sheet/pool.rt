@@ -13,7 +13,7 @@ ghost use Rattle.rh_sheet.specs.Pool.{pool_description, pool_figure, pool_height
 ghost use Rattle.rh_scene.specs.Steps.{IsStepOf, scene_at};
 
 use crate::counts::count_made;
-use crate::owners::{Named, OwnerSight, owner_at, takes_told};
+use crate::owners::{Named, OwnerSight, owner_at, takes_row};
 use crate::walks::page_changes::freed_of;
 use rh_elements::{
     add_tint, print_described, print_figure_end, print_figure_open, print_pool_side, print_squares,
@@ -81,13 +81,13 @@ fn print_sentence<S: Sight, P: Pen>(sight: &S, step: &Step<'_>, owner: &OwnerSig
     if pages.is_empty() {
         return;
     }
-    let mut row = pages_told(&owner.named, pages);
+    let mut row = pages_row(&owner.named, pages);
     row.text(b". ");
     put_escaped(row.as_slice(), pen);
 }
 
 /// An owner's pages.
-fn pages_told(named: &Named<'_>, pages: &[u16]) -> Row
+fn pages_row(named: &Named<'_>, pages: &[u16]) -> Row
     requires { length pages.now ≤ MAX_PAGES }
     ensures value { result ≡ concat (name_seen named.now ∷ codes ": page " ∷ listed_numbers pages.now ∷ []) }
     ensures few { length result ≤ 190 }
@@ -142,14 +142,14 @@ fn print_owner_squares<S: Sight, P: Pen>(
     let pages = pages_of(sight, step.pages, owner.place);
     let had = (step.kept.count(owner.named.owner()) as usize).min(pages.len());
     let (kept, taken) = pages.split_at(had);
-    let tip = pages_told(&owner.named, pages);
+    let tip = pages_row(&owner.named, pages);
     print_squares(
         square_class(&owner.named, false).as_slice(),
         kept,
         tip.as_slice(),
         pen,
     );
-    let tip = takes_told(&owner.named, taken);
+    let tip = takes_row(&owner.named, taken);
     print_squares(
         square_class(&owner.named, true).as_slice(),
         taken,

@@ -9,7 +9,7 @@ ghost use Rattle.rh_scene.specs.Steps.{IsStepOf, scene_at};
 
 use crate::artist::Artist;
 use crate::counts::count_made;
-use crate::owners::{OwnerSight, owner_at, takes_told};
+use crate::owners::{OwnerSight, owner_at, takes_row};
 use rh_lines::Pen;
 use rh_map::freed;
 use rh_scene::{Sight, Step, free_of, pages_of};
@@ -62,7 +62,7 @@ fn show_owner_takes<S: Sight, A: Artist, P: Pen>(
         return;
     }
     let pages = pages_of(sight, step.pages, owner.place);
-    artist.change(&takes_told(&owner.named, &pages[had as usize..]), pen);
+    artist.change(&takes_row(&owner.named, &pages[had as usize..]), pen);
 }
 
 /// Shows which pages were given back, if some were.

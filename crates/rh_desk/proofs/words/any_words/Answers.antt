@@ -3,7 +3,7 @@ use Rattle.rh_desk.proofs.words.any_words.Goals as goal
 
 pub returns-in-Some-clause-ends : goal.returns-in-Some-clause-ends
 returns-in-Some-clause-ends g c =
-    inl (c.in-Some.kind, sym c.kind_asked.ensures ∙ c.in-Some.is, refl, c.help_told.ensures.ends (g.I.Source.input c.args.input.now))
+    inl (c.in-Some.kind, sym c.kind_asked.ensures ∙ c.in-Some.is, refl, c.help_ending.ensures.ends (g.I.Source.input c.args.input.now))
 
 pub returns-in-None-clause-ends : goal.returns-in-None-clause-ends
 returns-in-None-clause-ends g c =

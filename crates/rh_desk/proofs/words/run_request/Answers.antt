@@ -13,7 +13,7 @@ returns-then-eq-clause-ends g c =
     let is : c.args.request.now.script.now ≡ codes "-" = search rules in
     rw (← (c.in-Ok.ensures.quiet ∙ c.in_default.ensures.quiet))
     (script-over g.R.File.Read.remaining _ _ _ _ _ _ _ c.in_default.ensures.good c.in-Ok.ensures.named c.in-Ok.ensures.whole
-    (λ input. c.show_told.ensures.over) (λ other. absurd (other is)))
+    (λ input. c.show_ending.ensures.over) (λ other. absurd (other is)))
 
 pub returns-in-Ok-open-clause-ends : goal.returns-in-Ok-open-clause-ends
 returns-in-Ok-open-clause-ends g c =

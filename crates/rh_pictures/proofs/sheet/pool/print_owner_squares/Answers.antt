@@ -24,14 +24,14 @@ rest-same : (n had count : ℕ) (found pages rest : List ℕ) → rest ≡ drop 
 rest-same n had count found pages rest a b e is =
     a ∙ (ap (λ k. drop k found) b ∙ (drop_min n found ∙ ap₂ drop e is))
 
-pub pages_told-tip-requires : goal.pages_told-tip-requires
-pages_told-tip-requires g c =
+pub pages_row-tip-requires : goal.pages_row-tip-requires
+pages_row-tip-requires g c =
     let ps = c.args.step.now.pages.now in
     let is = owner-pages ps c.requires.step.shared c.requires.owner c.pages_of-pages.result.now c.pages_of-pages.ensures in
     omega (arith, ap length is, owner-few ps c.requires.step.shared c.requires.owner c.recall_desk.ensures c.requires.step.all)
 
-pub takes_told-tip-requires : goal.takes_told-tip-requires
-takes_told-tip-requires g c =
+pub takes_row-tip-requires : goal.takes_row-tip-requires
+takes_row-tip-requires g c =
     let ps = c.args.step.now.pages.now in
     let is = owner-pages ps c.requires.step.shared c.requires.owner c.pages_of-pages.result.now c.pages_of-pages.ensures in
     omega (arith, c.split_at.ensures.back_len, ap length is, owner-few ps c.requires.step.shared c.requires.owner c.recall_desk.ensures c.requires.step.all)
@@ -46,8 +46,8 @@ returns g c =
     let name : name_seen named ≡ owner_name x.desk (who_seen named) = c.requires.owner.name in
     let kept = squares-same _ _ _ _ _ _ (c.as_slice.ensures ∙ c.square_class.ensures.value)
     (front-same c.count.result c.min-had.result _ found _ _ c.split_at.ensures.front c.min-had.ensures count is)
-    (c.as_slice-2.ensures ∙ (c.pages_told-tip.ensures.value ∙ ap₂ (λ n ns. concat (n ∷ codes ": page " ∷ listed_numbers ns ∷ [])) name is)) in
+    (c.as_slice-2.ensures ∙ (c.pages_row-tip.ensures.value ∙ ap₂ (λ n ns. concat (n ∷ codes ": page " ∷ listed_numbers ns ∷ [])) name is)) in
     let behind = rest-same c.count.result c.min-had.result _ found _ _ c.split_at.ensures.back c.min-had.ensures count is in
     let taken = squares-same _ _ _ _ _ _ (c.as_slice-3.ensures ∙ c.square_class-2.ensures.value) behind
-    (c.as_slice-4.ensures ∙ (c.takes_told-tip.ensures.value ∙ ap₂ taken_line name behind)) in
+    (c.as_slice-4.ensures ∙ (c.takes_row-tip.ensures.value ∙ ap₂ taken_line name behind)) in
     text_then _ _ _ (offered_as _ kept c.print_squares.ensures) (offered_as _ taken c.print_squares-2.ensures)

@@ -1,6 +1,6 @@
 use Rattle.rh_defs.specs.Runs.{start}
 use Rattle.rh_desk.proofs.DoneLemmas.{explain-over}
-use Rattle.rh_desk.proofs.words.explain_told.Goals as goal
+use Rattle.rh_desk.proofs.words.explain_ending.Goals as goal
 
 pub returns-clause-over : goal.returns-clause-over
 returns-clause-over g c =
