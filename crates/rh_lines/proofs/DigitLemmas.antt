@@ -1,9 +1,8 @@
 -- Hexadecimal digits, one by one from the last one on.
 use Rattle.std.proofs.Common.{◌≡◌, ◌≢◌, ℕ, zero, suc, ◌+◌, ◌/◌, ◌%◌, ◌^◌, ◌<◌, ◌≤◌, inl, inr, Bool, true, false, cond, eqb, List, [], ◌∷◌, ◌++◌, append_assoc}
-use Rattle.std.proofs.Common.{refl, sym, ap, ◌∙◌, arith, rules, ◌-◌, length, drop, slice_set}
+use Rattle.std.proofs.Common.{refl, sym, ap, ◌∙◌, arith, rules, ◌-◌}
 use Rattle.std.specs.Fmt.{digits, digits_onto, digit_glyph}
 use Rattle.std.proofs.lemmas.Fmt.{hex_one_digit}
-use Rattle.std.proofs.lemmas.List.{drop-set}
 use Rattle.std.proofs.lemmas.Bool.{cases_lt}
 use borrow.Author.Tests.{tests}
 
@@ -50,23 +49,17 @@ unfolding digits
 hex_step n h small = next 63 n [] h ∙ sym (onto_more 62 (n / 16) (glyph n ∷ []) (omega arith)) ∙ onto_append 64 (n / 16) (glyph n ∷ [])
 
 -- one digit more before the ones behind it
-pub digit_before : (all : List ℕ) (rest at : ℕ) (bytes : List ℕ) (d : ℕ) → all ≡ digits 16 true rest ++ drop at bytes → 16 ≤ rest → rest < 2 ^ 32
-    → d ≡ glyph rest → 0 < at → at ≤ length bytes → all ≡ digits 16 true (rest / 16) ++ drop (at - 1) (slice_set bytes (at - 1) d)
-digit_before all rest at bytes d so_far big small is some within =
-    let next : at - 1 + 1 ≡ at = omega arith in
-    let written : drop (at - 1) (slice_set bytes (at - 1) d) ≡ glyph rest ∷ drop at bytes =
-    drop-set bytes (at - 1) d (omega arith) ∙ rw (next, is) refl in
-    so_far ∙ ap (λ z. z ++ drop at bytes) (hex_step rest big small)
-    ∙ append_assoc (digits 16 true (rest / 16)) (glyph rest ∷ []) (drop at bytes) ∙ ap (λ z. digits 16 true (rest / 16) ++ z) (sym written)
+pub digit_before : (all : List ℕ) (rest : ℕ) (text : List ℕ) (d : ℕ) → all ≡ digits 16 true rest ++ text → 16 ≤ rest → rest < 2 ^ 32
+    → d ≡ glyph rest → all ≡ digits 16 true (rest / 16) ++ (d ∷ text)
+digit_before all rest text d so_far big small is =
+    so_far ∙ ap (λ z. z ++ text) (hex_step rest big small)
+    ∙ append_assoc (digits 16 true (rest / 16)) (glyph rest ∷ []) text ∙ ap (λ z. digits 16 true (rest / 16) ++ (z ∷ text)) (sym is)
 
 -- the first digit before the ones behind it
-pub digit_first : (all : List ℕ) (rest at : ℕ) (bytes : List ℕ) (d : ℕ) → all ≡ digits 16 true rest ++ drop at bytes → rest < 16
-    → d ≡ digit_glyph true rest → 0 < at → at ≤ length bytes → drop (at - 1) (slice_set bytes (at - 1) d) ≡ all
-digit_first all rest at bytes d so_far small is some within =
-    let next : at - 1 + 1 ≡ at = omega arith in
-    let written : drop (at - 1) (slice_set bytes (at - 1) d) ≡ digit_glyph true rest ∷ drop at bytes =
-    drop-set bytes (at - 1) d (omega arith) ∙ rw (next, is) refl in
-    written ∙ sym (so_far ∙ ap (λ z. z ++ drop at bytes) (hex_one_digit true rest small))
+pub digit_first : (all : List ℕ) (rest : ℕ) (text : List ℕ) (d : ℕ) → all ≡ digits 16 true rest ++ text → rest < 16 → d ≡ digit_glyph true rest
+    → d ∷ text ≡ all
+digit_first all rest text d so_far small is =
+    ap (λ z. z ∷ text) is ∙ sym (so_far ∙ ap (λ z. z ++ text) (hex_one_digit true rest small))
 
 -- a number that has more than one digit has fewer without its last
 pub fewer_digits : (rest at : ℕ) → 16 ≤ rest → rest < 16 ^ at → (1 < at) × (rest / 16 < 16 ^ (at - 1))

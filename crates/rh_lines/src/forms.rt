@@ -13,7 +13,7 @@ ghost use Rattle.rh_defs.specs.declared.sizes.TheConstants.{ANCHORS, GREATEST_NU
 ghost use Rattle.rh_lines.specs.Placed.{when_placed};
 ghost use Rattle.rh_lines.specs.declared.forms.TheConstants.{MOST_DIGITS};
 
-use crate::hexadecimal::{MOST_HEX_DIGITS, are_hex_digits, hex_number};
+use crate::hexadecimal::{MOST_HEX_DIGITS, hex_number};
 use crate::words::LineWords;
 use arrayvec::ArrayVec;
 use rh_defs::sizes::{ANCHORS, GREATEST_NUMBER, MOST_BYTES};
@@ -127,9 +127,8 @@ pub fn address_at(words: &LineWords<'_>, n: u8) -> Result<u32, LineFault>
     ensures { result ≡ address_at words.now n }
 {
     match words.word(n) {
-        [b'&', digits @ ..]
-            if !digits.is_empty() && digits.len() <= MOST_HEX_DIGITS && are_hex_digits(digits) => {
-            Ok(hex_number(digits))
+        [b'&', digits @ ..] if !digits.is_empty() && digits.len() <= MOST_HEX_DIGITS => {
+            hex_number(digits).ok_or(LineFault::Word(n))
         }
         _ => Err(LineFault::Word(n)),
     }

@@ -17,6 +17,7 @@ mod print;
 mod row;
 mod sink;
 mod source;
+mod suffix;
 mod tasks;
 mod whole_text;
 mod words;

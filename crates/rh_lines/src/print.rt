@@ -10,9 +10,11 @@ ghost use Rattle.rh_defs.specs.Text.{rest_of_line};
 ghost use Rattle.rh_lines.specs.Flow.{Puts};
 ghost use Rattle.rh_lines.specs.declared.row.TheConstants.{ROW};
 
+use crate::hexadecimal::put_hex_number;
 use crate::pen::Pen;
 use crate::row::Row;
 use crate::sink::{Sink, WriteFailed};
+use crate::suffix::Suffix;
 use crate::writer_pen::WriterPen;
 use rh_defs::{Action, EventCode, LineFault, Numbers, Outcome, Ref, Refusal, Reply};
 
@@ -110,14 +112,18 @@ pub fn add_number(number: u32, row: &mut Row)
     row.byte(b'\n');
 }
 
+#[tactic(auto, unfolding(rh_defs::specs::Text::address))]
 fn print_address<P: Pen>(number: u32, pen: &mut P)
     ensures { P.offered pen.new ≡ P.offered pen.old ++ ok (address number ∷ []) }
 {
-    let mut row = Row::new();
-    row.text(b"ok ");
-    row.address(number);
-    row.byte(b'\n');
-    pen.put(row.as_slice());
+    let mut line = Suffix::new();
+    line.byte(b'\n');
+    put_hex_number(number, &mut line);
+    line.byte(b'&');
+    line.byte(b' ');
+    line.byte(b'k');
+    line.byte(b'o');
+    pen.put(line.as_slice());
 }
 
 /// The first line of an answer.

@@ -6,7 +6,8 @@ ghost use Rattle.hex.specs.Hex.{encode_lower};
 ghost use Rattle.rh_defs.specs.Text.{address};
 ghost use Rattle.rh_lines.specs.declared.row.TheConstants.{ROW};
 
-use crate::hexadecimal::{MOST_HEX_DIGITS, write_hex_number};
+use crate::hexadecimal::put_hex_number;
+use crate::suffix::Suffix;
 use itoa::Buffer;
 use std::marker::Model;
 
@@ -103,9 +104,9 @@ impl Row {
         ensures value { self.new ≡ self.old ++ address number }
         ensures few { length self.new ≤ length self.old + 11 }
     {
-        let mut digits = [0; MOST_HEX_DIGITS];
-        let start = write_hex_number(number, &mut digits);
+        let mut digits = Suffix::new();
+        put_hex_number(number, &mut digits);
         self.byte(b'&');
-        self.text(&digits[start..]);
+        self.text(digits.as_slice());
     }
 }

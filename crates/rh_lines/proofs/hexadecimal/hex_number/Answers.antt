@@ -15,6 +15,6 @@ overflow_mul-number c =
 
 pub overflow_add-number : goal.overflow_add-number
 overflow_add-number c =
-    let room : 16 * c.loop-b.number + c.number_of.result < 2 ^ 32 =
-    has_room c.loop-b.number c.number_of.result c.loop-b.b-index c.loop-b.invariant.bound (omega arith) c.number_of.ensures.small in
+    let room : 16 * c.loop-b.number + c.in_ok-digit.digit < 2 ^ 32 =
+    has_room c.loop-b.number c.in_ok-digit.digit c.loop-b.b-index c.loop-b.invariant.bound (omega arith) c.in_ok-digit.ensures.small in
     omega arith
