@@ -41,7 +41,14 @@ fn area_of(words: &LineWords<'_>, command: &mut Command) -> Result<(), LineFault
     counted(words, 3)?;
     let number = number_at(words, 2, 0, LAST_AREA)?;
     let delta = delta_at(words, 3)?;
-    *command = Command::Area { number, delta };
+    if let Command::Area { number: place, .. } = command {
+        *place = number;
+    } else {
+        *command = Command::Area { number, delta };
+    }
+    if let Command::Area { delta: by, .. } = command {
+        *by = delta;
+    }
     Ok(())
 }
 

@@ -47,7 +47,18 @@ fn alloc_of(words: &LineWords<'_>, command: &mut Command) -> Result<(), LineFaul
     let name = name_at(words, 2)?;
     let anchor = anchor_at(words, 3)?;
     let size = size_at(words, 4)?;
-    *command = Command::Alloc { name, anchor, size };
+    if let Command::Alloc {
+        name: place,
+        anchor: at,
+        size: count,
+    } = command
+    {
+        *place = name;
+        *at = anchor;
+        *count = size;
+    } else {
+        *command = Command::Alloc { name, anchor, size };
+    }
     Ok(())
 }
 
@@ -101,7 +112,16 @@ fn free_of(words: &LineWords<'_>, command: &mut Command) -> Result<(), LineFault
     counted(words, 3)?;
     let name = name_at(words, 2)?;
     let anchor = anchor_at(words, 3)?;
-    *command = Command::Free { name, anchor };
+    if let Command::Free {
+        name: place,
+        anchor: at,
+    } = command
+    {
+        *place = name;
+        *at = anchor;
+    } else {
+        *command = Command::Free { name, anchor };
+    }
     Ok(())
 }
 
@@ -117,7 +137,18 @@ fn extend_of(words: &LineWords<'_>, command: &mut Command) -> Result<(), LineFau
     let name = name_at(words, 2)?;
     let anchor = anchor_at(words, 3)?;
     let size = size_at(words, 4)?;
-    *command = Command::Extend { name, anchor, size };
+    if let Command::Extend {
+        name: place,
+        anchor: at,
+        size: count,
+    } = command
+    {
+        *place = name;
+        *at = anchor;
+        *count = size;
+    } else {
+        *command = Command::Extend { name, anchor, size };
+    }
     Ok(())
 }
 

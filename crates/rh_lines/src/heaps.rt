@@ -43,7 +43,16 @@ fn claim_of(words: &LineWords<'_>, command: &mut Command) -> Result<(), LineFaul
     counted(words, 3)?;
     let name = name_at(words, 2)?;
     let size = size_at(words, 3)?;
-    *command = Command::Claim { name, size };
+    if let Command::Claim {
+        name: place,
+        size: number,
+    } = command
+    {
+        *place = name;
+        *number = size;
+    } else {
+        *command = Command::Claim { name, size };
+    }
     Ok(())
 }
 
@@ -58,7 +67,16 @@ fn release_of(words: &LineWords<'_>, command: &mut Command) -> Result<(), LineFa
     counted(words, 3)?;
     let name = name_at(words, 2)?;
     let address = address_at(words, 3)?;
-    *command = Command::Release { name, address };
+    if let Command::Release {
+        name: place,
+        address: number,
+    } = command
+    {
+        *place = name;
+        *number = address;
+    } else {
+        *command = Command::Release { name, address };
+    }
     Ok(())
 }
 
@@ -74,11 +92,25 @@ fn resize_of(words: &LineWords<'_>, command: &mut Command) -> Result<(), LineFau
     let name = name_at(words, 2)?;
     let address = address_at(words, 3)?;
     let delta = delta_at(words, 4)?;
-    *command = Command::Resize {
-        name,
-        address,
-        delta,
-    };
+    if let Command::Resize { name: place, .. } = command {
+        *place = name;
+    } else {
+        *command = Command::Resize {
+            name,
+            address,
+            delta,
+        };
+    }
+    if let Command::Resize {
+        address: number,
+        ..
+    } = command
+    {
+        *number = address;
+    }
+    if let Command::Resize { delta: by, .. } = command {
+        *by = delta;
+    }
     Ok(())
 }
 

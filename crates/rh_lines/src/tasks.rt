@@ -105,12 +105,25 @@ fn save_of(words: &LineWords<'_>, command: &mut Command) -> Result<(), LineFault
     let anchor = anchor_at(words, 3)?;
     let to = name_at(words, 4)?;
     let leaf = leaf_at(words, 5)?;
-    *command = Command::Save {
-        name,
-        anchor,
-        to,
-        leaf,
-    };
+    if let Command::Save {
+        name: place,
+        anchor: at,
+        to: other,
+        leaf: title,
+    } = command
+    {
+        *place = name;
+        *at = anchor;
+        *other = to;
+        *title = leaf;
+    } else {
+        *command = Command::Save {
+            name,
+            anchor,
+            to,
+            leaf,
+        };
+    }
     Ok(())
 }
 
