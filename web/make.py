@@ -16,9 +16,9 @@ TARGET = WEB / "out/vervainfile.html"
 RELEASED = TOP / "dist/vervainfile.html"
 # The parts of the page's script, each behind those that it uses. One of them is made, the others are files.
 SCRIPTS = ("bytes.js", "script.js", "desk.js", "instance.js", "files.js", "link.js", "kept.js", "session.js",
-           "prose.js", sentences.PART, "words.js", "mend.js", "explain.js", "list.js", "movement.js", "picture.js",
-           "memory.js", "lessons.js", "story.js", "steps.js", "guess.js", "shelf.js", "live.js", "complete.js",
-           "prompt.js", "help.js", "panels.js", "notice.js", "share.js", "page.js")
+           "prose.js", sentences.PART, "words.js", "mend.js", "explain.js", "list.js", "movement.js", "flight.js",
+           "picture.js", "memory.js", "lessons.js", "story.js", "steps.js", "guess.js", "shelf.js", "live.js",
+           "complete.js", "prompt.js", "help.js", "panels.js", "notice.js", "share.js", "page.js")
 # How many bytes a page may have.
 MOST_BYTES = 400_000
 USUAL_PAGES = 64

@@ -120,10 +120,12 @@ export class Memory {
     }
     const { style, memory, messages, legend, changes } =
       lastStepOf(this.#session.drawn("vf_draw", false), line, added);
-    this.#picture.show(style, memory, legend, this.#isBesidePictured());
     const { command, state: { lines, pages } } = this.#session;
+    const isBeside = this.#isBesidePictured();
+    const isBehind = isBeside && command > this.#pictured.command;
+    this.#picture.show(style, memory, legend, isBeside, isBehind ? changes : []);
     this.#pictured = { command, lines, pages };
-    this.#showMessages(messages, style);
+    this.#showMessages(messages, style, isBeside);
     this.changes = changes;
     this.#still = stillness(lines[command], this.#session.replies[command]);
     return "";
@@ -154,10 +156,10 @@ export class Memory {
     this.#chart.clear();
   }
 
-  #showMessages(messages, style) {
+  #showMessages(messages, style, isBeside) {
     if (!messages.length) return;
     this.#parts["no-messages"].hidden = true;
-    this.#chart.show(style, messages, []);
+    this.#chart.show(style, messages, [], isBeside);
   }
 
   // Brings the last messages into view, once all of the page is as high as it gets.

@@ -1,14 +1,14 @@
 // Movement between the pictures of two neighbouring steps: a block that both have goes from its old place to the new
 // one, and one that is new comes in. The picture is the module's at once: only how it is shown changes by degrees.
 
-const MOTION = { duration: 420, easing: "cubic-bezier(.3, 0, .2, 1)" };
-// Arrows of slides are seen once all blocks have their places.
-const ARROWS = ".casing, .ghost, .slide";
+export const MOTION = { duration: 420, easing: "cubic-bezier(.3, 0, .2, 1)" };
+// Arrows of slides, and what is new among messages, are seen once all blocks have their places.
+const ARROWS = ".casing, .ghost, .slide, .msg.now, .mname.now";
 const LATE = { duration: 150, delay: MOTION.duration, fill: "backwards" };
 const UNSEEN = [{ opacity: 0 }, { opacity: 1 }];
 // What moves, by the beginning of its title.
 const MOVABLE = /^(?:flex block \d+|message \d+|(?:used|hole) &[0-9A-F]+)/;
-const LESS_MOTION = matchMedia("(prefers-reduced-motion: reduce)");
+export const LESS_MOTION = matchMedia("(prefers-reduced-motion: reduce)");
 
 const numberOf = (element, name) => Number(element.getAttribute(name));
 const inUnits = (place) => Object.fromEntries(Object.entries(place).map(([name, value]) => [name, `${value}px`]));

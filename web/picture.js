@@ -1,6 +1,7 @@
 // Pictures of memory and of messages: the last figure of a sheet, each in a tree of its own, with the sheet's style.
 
 import { shownText } from "./bytes.js";
+import { cardsIn, copiesBytes, flyBytes } from "./flight.js";
 import { moveParts, partsIn } from "./movement.js";
 import { element } from "./prose.js";
 
@@ -112,14 +113,16 @@ export class Picture {
     added.replaceSync(addedStyle);
     this.#tree = host.attachShadow({ mode: "open" });
     this.#tree.adoptedStyleSheets = [this.#sheetStyle, added];
+    this.#figure.className = "figure";
     this.#tree.append(this.#figure);
   }
 
   // Shows parts of a sheet, and what is said of how they are read, with the sheet's style. Where they are of the step
-  // beside the one that was shown, blocks move.
-  show(style, parts, legend, isBeside = false) {
+  // beside the one that was shown, blocks move; where they are of the step behind it, so do bytes, by its changes.
+  show(style, parts, legend, isBeside = false, changes = []) {
     if (style !== this.#styleText) this.#restyle(style, legend);
     const before = isBeside ? partsIn(this.#figure) : undefined;
+    const cards = copiesBytes(changes) ? cardsIn(this.#figure) : undefined;
     const frames = this.#frames;
     const scrolled = frames.map((frame) => frame.scrollLeft);
     const focused = frames.findIndex((frame) => frame.contains(this.#tree.activeElement));
@@ -131,6 +134,7 @@ export class Picture {
     const chart = this.#figure.querySelector("aside > svg");
     if (chart) this.#figure.prepend(headsOf(chart));
     if (before) moveParts(this.#figure, before);
+    if (cards) flyBytes(this.#figure, cards, changes);
   }
 
   get #frames() {

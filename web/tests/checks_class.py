@@ -346,6 +346,55 @@ def check_movement(bench):
         page.tab.call("Emulation.setEmulatedMedia", features=[])
 
 
+# Steps on or back, and gives the bytes that fly then: each one's character, the names of the cards over which it is at
+# first and at last, and how many milliseconds behind the first one it begins. Those before are looked for at first.
+FLYING = """((button) => {
+  const tree = document.querySelector('#picture').shadowRoot;
+  const cards = () => [...tree.querySelectorAll('.card')].map((card) => {
+    const [place, corner] = [card, tree.querySelector('.figure')].map((it) => it.getBoundingClientRect());
+    const name = `${card.parentNode.querySelector('title').textContent}, ${card.nextElementSibling.textContent}`;
+    const { width, height } = place;
+    return { name, left: place.left - corner.left, top: place.top - corner.top, width, height };
+  });
+  const before = cards();
+  document.querySelector(button).click();
+  const under = (places, { transform }) => {
+    const [x, y] = transform.match(/-?[0-9.]+/g).map(Number);
+    return places.find((it) => x >= it.left && x < it.left + it.width && y >= it.top && y < it.top + it.height)?.name;
+  };
+  return tree.getAnimations().filter(({ effect }) => effect.target.matches('.byte')).map(({ effect }) => {
+    const [from, to] = effect.getKeyframes();
+    return [effect.target.textContent, under(before, from), under(cards(), to),
+      effect.getTiming().delay];
+  });
+})('%s')"""
+
+
+def check_flight(bench):
+    """Bytes that a step copies fly from document to buffer, and from buffer to document; not on the way back, nor where
+    less motion is asked for; nothing stays of them."""
+    writer, buffer, reader = (f"The slot of {it}" for it in ("writer, anchor 0 &9008", "reader, buffer &8114",
+                                                             "reader, anchor 0 &9008"))
+    ways = {12: ("let", writer, buffer), 15: ("let", buffer, reader), 17: ("ter", writer, buffer),
+            18: ("ter", buffer, reader), 21: ("s", writer, buffer), 25: ("s", buffer, reader)}
+    flown = {at: [[it, source, target, 40 * count] for count, it in enumerate(word)]
+             for at, (word, source, target) in ways.items()}
+    with bench.kept_page() as page:
+        page.load("lessons/small-buffer")
+        seen = {}
+        while "step" not in page.disabled():
+            found = page.value(FLYING % "#step")
+            line = int(page.value("document.querySelector('#shown b').textContent"))
+            seen |= {line: found} if found else {}
+        same(seen, flown, "which bytes fly at which lines")
+        page.tab.wait(lambda: page.value("!document.querySelector('#picture').shadowRoot.querySelector('.flying')"),
+                      "bytes stay over the picture")
+        same(page.value(FLYING % "#back"), [], "what flies on the way back")
+        page.tab.call("Emulation.setEmulatedMedia", features=[{"name": "prefers-reduced-motion", "value": "reduce"}])
+        same(page.value(FLYING % "#step"), [], "what flies where less motion is asked for")
+        page.tab.call("Emulation.setEmulatedMedia", features=[])
+
+
 def sampled(form):
     """A line of a form, with samples for its words."""
     return " ".join(SAMPLES.get(word, word) for word in form.split())

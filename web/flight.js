@@ -1,0 +1,87 @@
+// Bytes on their way: at a step that copies some of a document into a buffer, or of a buffer into a document, these fly
+// from card to card. Which ones, from where and to where stands in the module's own words and on its cards.
+
+import { LESS_MOTION, MOTION } from "./movement.js";
+
+const MOST_CHIPS = 16;
+const FLIGHT = { duration: 600, easing: MOTION.easing, fill: "both" };
+// So long after the one before it a chip begins.
+const APART = 40;
+const INTO_BUFFER = /^([1-9]\d*) bytes? into the buffer of (.+) at (&[0-9A-F]+)$/;
+const INTO_DOCUMENT = /^Flex block (\d+) had (\d+) bytes?, now (\d+)$/;
+const TAKES = /^(.+) takes RAMTransmit \d+$/;
+const PAIRS = /^(?:[0-9a-f]{2})+/;
+
+// The parts of the first text of some that has a form.
+const partsOfFirst = (texts, form) => texts.map((text) => form.exec(text)?.slice(1)).find(Boolean) ?? [];
+
+// The cards of the slots in a picture of memory: whose each is, its name, the transfers that use it, the bytes that it
+// shows, and where these stand in the window.
+export function cardsIn(figure) {
+  return [...figure.querySelectorAll(".memory svg .first")].map((first) => {
+    const words = first.nextElementSibling;
+    const shown = words?.nextElementSibling;
+    const [pairs = ""] = shown?.matches(".line") ? PAIRS.exec(shown.textContent) ?? [] : [];
+    return {
+      slot: first.parentNode.querySelector("title").textContent.replace("The slot of ", ""),
+      name: first.textContent,
+      transfers: words?.textContent.split(", ").slice(1) ?? [],
+      bytes: (pairs.match(/../g) ?? []).map((pair) => parseInt(pair, 16)),
+      place: (pairs ? shown : words ?? first).getBoundingClientRect(),
+    };
+  });
+}
+
+// The number of the transfer that uses a card in a direction; and whether such a one is of that number.
+const transferOf = (card, way) => partsOfFirst(card?.transfers ?? [], new RegExp(`^${way} (\\d+)$`))[0];
+const isUsed = (way, transfer) => (card) => transfer !== undefined && transferOf(card, way) === transfer;
+
+// From which card to which one which bytes go, where a buffer gets some. Behind the command no transfer may use the
+// document any more: it is one of the cards before.
+function wayIntoBuffer(before, cards, changes) {
+  const [count, slot, address] = partsOfFirst(changes, INTO_BUFFER);
+  const to = cards.find((card) => card.slot === slot && card.name === `buffer ${address}`);
+  const from = before.find(isUsed("out", transferOf(to, "in")));
+  return from && to && { from, to, bytes: to.bytes.slice(0, count) };
+}
+
+// The same where a document gets some. The buffer may be gone behind the command: it is one of the cards before.
+function wayIntoDocument(before, cards, changes) {
+  const [slot] = partsOfFirst(changes, TAKES);
+  const [anchor, old, size] = partsOfFirst(changes, INTO_DOCUMENT);
+  const own = before.filter((card) => card.slot === slot);
+  const isDocument = (card) => card.slot === slot && card.name.startsWith(`anchor ${anchor} `);
+  const buffers = own.filter((card) => card.name.startsWith("buffer "));
+  const from = buffers.find(isUsed("in", transferOf(own.find(isDocument), "in")));
+  const to = cards.find(isDocument);
+  return from && to && { from, to, bytes: from.bytes.slice(0, size - old) };
+}
+
+// Whether a command has copied bytes, by what it has changed in words.
+export const copiesBytes = (changes) => changes.some((text) => INTO_BUFFER.test(text)
+  || INTO_DOCUMENT.test(text) && changes.some((other) => TAKES.test(other)));
+
+// One byte on its way, the so manieth of those that fly together.
+function chipOf(byte, at, from, to) {
+  const chip = document.createElement("span");
+  chip.className = "byte";
+  chip.textContent = byte > 32 && byte < 127 ? String.fromCharCode(byte) : "·";
+  const path = [from, to].map(({ x, y }) => ({ transform: `translate(${x + at * 16}px, ${y}px)` }));
+  return [chip, () => chip.animate(path, { ...FLIGHT, delay: at * APART }).finished];
+}
+
+// Lets the bytes that a command has copied fly over a figure, from the cards that it had before to those that it has.
+export function flyBytes(figure, before, changes) {
+  if (LESS_MOTION.matches) return;
+  const cards = cardsIn(figure);
+  const way = wayIntoBuffer(before, cards, changes) ?? wayIntoDocument(before, cards, changes);
+  if (!way?.bytes.length) return;
+  const corner = figure.getBoundingClientRect();
+  const [from, to] = [way.from, way.to].map(({ place }) => ({ x: place.x - corner.x, y: place.y - corner.y }));
+  const layer = document.createElement("div");
+  Object.assign(layer, { className: "flying", ariaHidden: "true" });
+  const chips = way.bytes.slice(0, MOST_CHIPS).map((byte, at) => chipOf(byte, at, from, to));
+  layer.append(...chips.map(([chip]) => chip));
+  figure.append(layer);
+  Promise.allSettled(chips.map(([, fly]) => fly())).then(() => layer.remove());
+}
