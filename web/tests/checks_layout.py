@@ -3,8 +3,12 @@
 import json
 import re
 
+import desk_page
+import native
 from bench import holds, same
-from checks_looks import COLOURED, TINTS
+from checks_looks import COLOURED, LEAST_CONTRAST, TINTS
+
+import make
 
 # The edges of an element in the window.
 EDGES = "(({ left, top, right, bottom }) => ({ left, top, right, bottom }))(%s.getBoundingClientRect())"
@@ -39,6 +43,11 @@ FRESH_COLOURS = """[...new Set([...document.querySelector('#picture').shadowRoot
 # Of flex blocks that have changed the colours from within: the block, the line of paper, and the edge.
 FLEX_EDGES = """[...document.querySelector('#picture').shadowRoot.querySelectorAll('svg .flex.fresh:not(.card)')]
   .map((it) => getComputedStyle(it)).map(({ fill, stroke, filter }) => [fill, stroke, /rgb[^)]*[)]/.exec(filter)[0]])"""
+# The lines around what is seen of a sheet's figures, each once, and the colour of the page behind them.
+LINES_OF_SHEET = """[[...new Set([...document.querySelectorAll(
+  ':is(rect, path):is(.row, .used, .hole, .many, .anchors, .card, .life, .msg)')]
+  .filter((it) => it.checkVisibility()).map((it) => getComputedStyle(it).stroke).filter((it) => it !== 'none'))],
+  getComputedStyle(document.body).backgroundColor]"""
 # Examples of which a step on the way is looked at, by its number.
 STEPS = {"hello": 2, "made-areas": 5, "sliding": 5, "lessons/death": 9}
 
@@ -303,3 +312,22 @@ def check_changed_blocks(bench):
                 for colours in page.value(FLEX_EDGES):
                     found = [contrast(*pair) for pair in zip(colours, colours[1:])]
                     holds(min(found) >= LEAST_CONTRAST_OF_EDGES, f"{colours} in {name} have contrasts {found}")
+
+
+def check_sheets_alone(bench):
+    """A sheet that is opened by itself is light or dark, with enough contrast of its words and of lines in figures."""
+    examples = make.examples_by_name()
+    scripts = {name: examples[name]["text"].encode() for name in COLOURED} | {"tints": TINTS.encode()}
+    for name, script in scripts.items():
+        sheet = native.done("draw", native.Job(script, pages=examples.get(name, {}).get("pages", 64)))[1]
+        last = [it.split('"', 1)[0] for it in sheet.decode().split('<section id="')[1:] if '<div class="memory">' in it][-1]
+        tab = bench.browser.open(f"{bench.server.address('/sheet.html', sheet)}#{last}")
+        for is_dark in (False, True):
+            tab.resize(1440, 900, is_dark)
+            lines, paper = tab.value(LINES_OF_SHEET)
+            holds((luminance(paper) < 0.2) == is_dark, f"the sheet of {name} is {paper}, dark is {is_dark}")
+            faint = [it for it in lines if contrast(it, paper) < LEAST_CONTRAST_OF_EDGES]
+            same([lines != [], faint], [True, []], f"lines of {name} on {paper}")
+            faint = tab.value(desk_page.call_of("contrasts.js", LEAST_CONTRAST))
+            same(faint, [], f"texts of little contrast in the sheet of {name}, dark is {is_dark}")
+        tab.close()

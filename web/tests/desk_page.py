@@ -30,6 +30,12 @@ AT_FIRST = """(() => {
 })()"""
 
 
+def call_of(name, *values):
+    """A call of the function in a file beside this one, for values."""
+    text = (TESTS / name).read_text().strip()
+    return f"({text[text.index('('):]})({', '.join(json.dumps(it) for it in values)})"
+
+
 class DeskPage:
     """A tab with the page."""
 
@@ -98,8 +104,7 @@ class DeskPage:
 
     def script(self, name, *values):
         """What a function of a file beside this one gives for values."""
-        text = (TESTS / name).read_text().strip()
-        return self.value(f"({text[text.index('('):]})({', '.join(json.dumps(it) for it in values)})")
+        return self.value(call_of(name, *values))
 
     def drop_bytes(self, name, content, test=None):
         """Drops a file, and gives the seconds until a test holds, or until it is taken or refused."""

@@ -68,7 +68,7 @@ pub const NUMBER_INDENT: u32 = 3;
 pub const NUMBER_BASELINE: u32 = 14;
 
 /// From a square's upper edge to the line that a tag stands on.
-pub const TAG_BASELINE: u32 = 26;
+pub const TAG_BASELINE: u32 = 28;
 
 /// The lines that the name of the pool and the number of free pages stand on.
 pub const POOL_NAME_Y: u32 = 14;

@@ -2,15 +2,19 @@
 //!
 //! What belongs to a figure is told apart by shape as well as by colour: a block that may slide is dark, one of a heap
 //! light, a hole striped, free memory white; what a command has changed has a thick edge, what it has given back a
-//! dashed one. Rules for what stands in a figure name one class and no parent: figures use each other's parts.
+//! dashed one. Rules for what stands in a figure name one class and no parent: figures use each other's parts. Where
+//! the system asks for dark colours a screen has them, and what was dark is bright there; paper has none.
 
 /// The style of every sheet.
 pub const STYLE: &[u8] = b"\
-:root { --text: #1d2329; --quiet: #5d6671; --edge: #aab2bb; --faint: #d9dee3; --changed: #b3370c; }
+:root { --text: #1d2329; --quiet: #505963; --edge: #86909a; --faint: #d9dee3; --changed: #a8330a; --paper: white; }
+:root { --free: white; --lens: #eff2f5; --ink: #4a5159; --stripe: #69727c; --post: #6b747e; color-scheme: light dark; }
+:root { --around: drop-shadow(2px 0 0 var(--changed)) drop-shadow(-2px 0 0 var(--changed))
+  drop-shadow(0 2px 0 var(--changed)) drop-shadow(0 -2px 0 var(--changed)); }
 * { box-sizing: border-box; }
 html { font: 16px/1.5 'Source Sans 3', 'Noto Sans', 'Liberation Sans', Arial, sans-serif; }
 body { display: flex; flex-direction: column; max-width: 100rem; margin: 0 auto; padding: 1.25rem 1.5rem 5rem; }
-body { color: var(--text); background: white; }
+body { color: var(--text); background: var(--paper); }
 code, pre, text { font-family: 'DejaVu Sans Mono', 'Liberation Mono', Menlo, Consolas, monospace; }
 a { color: inherit; }
 
@@ -30,7 +34,7 @@ nav a:hover, nav a:focus { background: var(--faint); }
 
 /* a step: what is said, the figure, and what stands beside it */
 section { margin-top: 1.5rem; padding-top: 1rem; border-top: 1px solid var(--faint); }
-section nav { float: right; margin-left: 1rem; color: var(--edge); }
+section nav { float: right; margin-left: 1rem; color: var(--quiet); }
 section nav a { color: var(--quiet); }
 h2 { margin: 0 0 0.25rem; font-size: 1.1rem; font-weight: normal; overflow-wrap: anywhere; }
 h2 b { margin-right: 0.4rem; }
@@ -59,7 +63,7 @@ svg { display: block; width: 100%; height: auto; overflow: visible; }
 text { font-size: 16px; fill: var(--text); }
 .side { font-weight: bold; }
 .small { font-size: 14px; fill: var(--quiet); }
-.num { font-size: 18px; fill: #505963; }
+.num { font-size: 18px; fill: var(--quiet); }
 .tag { font-size: 13px; font-weight: bold; text-anchor: middle; }
 .addr { fill: var(--quiet); }
 .chipn { font-size: 14px; text-anchor: middle; }
@@ -86,57 +90,79 @@ text { font-size: 16px; fill: var(--text); }
 
 /* what it is */
 .cells { fill: url(#cells); stroke: var(--edge); }
-.row { fill: white; stroke: var(--edge); }
+.row { fill: var(--free); stroke: var(--edge); }
 .gone { fill: none; stroke: var(--changed); stroke-dasharray: 6 4; }
-.freed { fill: white; stroke: var(--changed); stroke-width: 2; stroke-dasharray: 4 3; }
+.freed { fill: var(--free); stroke: var(--changed); stroke-width: 2; stroke-dasharray: 4 3; }
 .anchors { fill: url(#words); stroke: var(--edge); }
-.tick { stroke: black; stroke-width: 1.25; transform: translateX(0.5px); }
-.head { fill: #4a5159; }
-.used { stroke: #4a5159; }
-.hole { fill: url(#stripes); stroke: #7b838c; }
-.many { fill: url(#words); stroke: #4a5159; }
+.tick { stroke: var(--text); stroke-width: 1.25; transform: translateX(0.5px); }
+.head { fill: var(--ink); }
+.used { stroke: var(--ink); }
+.hole { fill: url(#stripes); stroke: var(--stripe); }
+.many { fill: url(#words); stroke: var(--ink); }
 .top { fill: none; }
 .spare { fill: none; }
-.flex { stroke: white; stroke-width: 0.5; }
+.flex { stroke: var(--free); stroke-width: 0.5; }
 .fresh { stroke: var(--changed); stroke-width: 3; }
-.lens { fill: #eff2f5; }
-.card { fill: white; stroke: #9aa3ad; stroke-width: 1; }
+/* the edge of what has changed has a line of paper inside: it would be lost on a dark block */
+.flex.fresh:not(.card) { stroke: var(--free); stroke-width: 2; filter: var(--around); }
+.lens { fill: var(--lens); }
+.card { fill: var(--free); stroke: var(--edge); stroke-width: 1; }
 .card.hole { stroke-dasharray: 4 3; }
 .card.more { stroke: none; }
 .card.fresh { stroke: var(--changed); stroke-width: 3; }
-.casing { fill: none; stroke: white; stroke-width: 7; }
+.casing { fill: none; stroke: var(--paper); stroke-width: 7; }
 .casing:has(+ .ghost) { stroke: none; }
 .ghost { fill: none; stroke: var(--changed); stroke-width: 2; stroke-dasharray: 3 2; }
 .slide { fill: none; stroke: var(--changed); stroke-width: 2.5; marker-end: url(#point); }
 
 /* words in a piece, which has the same class */
 .lab.used, .lab.flex { stroke: none; }
-.lab.hole, .lab.many { stroke: white; stroke-width: 4px; paint-order: stroke; }
+.lab.hole, .lab.many { stroke: var(--free); stroke-width: 4px; paint-order: stroke; }
 .lab.used, .lab.hole, .lab.many { fill: var(--text); }
-.lab.flex { fill: white; }
+.lab.flex { fill: var(--free); }
 .lab.top, .lab.spare { fill: var(--quiet); }
 
 /* messages between the tasks */
 .who { font-size: 14px; font-weight: bold; text-anchor: middle; }
-.dead { fill: #8b939c; text-decoration: line-through; }
+.dead { fill: var(--quiet); text-decoration: line-through; }
 .life { stroke: var(--edge); }
 .beat { font-size: 12px; fill: var(--quiet); }
-.msg { fill: none; stroke: #6b747e; stroke-width: 1.25; marker-end: url(#tip); }
+.msg { fill: none; stroke: var(--post); stroke-width: 1.25; marker-end: url(#tip); }
 .waits, .untaken { stroke-dasharray: 5 4; }
 .msg.now { stroke: var(--changed); stroke-width: 2; marker-end: url(#point); }
 .msg.held { marker-end: url(#ring); }
 .msg.vanished { marker-end: url(#cross); }
-.mname { font-size: 12px; stroke: white; stroke-width: 4px; paint-order: stroke; }
+.mname { font-size: 12px; stroke: var(--paper); stroke-width: 4px; paint-order: stroke; }
 .mname.now { font-weight: bold; }
 .west { text-anchor: end; }
 
 /* patterns, and the ends of arrows */
-pattern path { fill: none; stroke: #cfd5db; }
-#stripes path { stroke: #69727c; stroke-width: 1.4; }
-#tip path { fill: #6b747e; }
+pattern path { fill: none; stroke: var(--faint); }
+#stripes path { stroke: var(--stripe); stroke-width: 1.4; }
+#tip path { fill: var(--post); }
 #point path { fill: var(--changed); }
-#ring path { fill: white; stroke: #6b747e; stroke-width: 2; }
+#ring path { fill: var(--paper); stroke: var(--post); stroke-width: 2; }
 #cross path { stroke: var(--text); stroke-width: 3; }
+
+/* in the dark tints are dim, and flex blocks bright */
+@media screen and (prefers-color-scheme: dark) {
+  :root { --text: #e6eaee; --quiet: #aab4be; --edge: #6d7883; --faint: #353e47; --changed: #ffa27a; --paper: #1a1f25; }
+  :root { --free: #14181c; --lens: #262d34; --ink: #b4bdc6; --stripe: #8b959f; --post: #98a2ad; }
+  .t0 { fill: #27435f; }
+  .t1 { fill: #54431a; }
+  .t2 { fill: #334d27; }
+  .t3 { fill: #57323d; }
+  .t4 { fill: #41375b; }
+  .t5 { fill: #234b48; }
+  .m { fill: #3a4148; }
+  .o { fill: #463f31; }
+  .flex.t0 { fill: #8fbdec; }
+  .flex.t1 { fill: #e3bb5b; }
+  .flex.t2 { fill: #9fd07f; }
+  .flex.t3 { fill: #ea9fb5; }
+  .flex.t4 { fill: #bcaaf0; }
+  .flex.t5 { fill: #79cec8; }
+}
 
 /* a link to a step shows that step alone, without how figures are read */
 @media screen {
