@@ -39,6 +39,11 @@ NAMES_SEEN = f"""((pane, lives) => [...{CHART}.querySelectorAll('.heads text')].
   name.getBoundingClientRect())))(document.querySelector('#messages').getBoundingClientRect(),
   [...{CHART}.querySelectorAll('aside .life')])"""
 
+# The chart's own names of which some is seen: not above the pane, and not behind the plate on which the others stand.
+NAMES_TWICE = f"""((pane, plate) => [...{CHART}.querySelectorAll('aside .who')].filter((name) =>
+  ((place) => place.bottom > pane.top + 1 && (place.top < plate.top || place.bottom > plate.bottom))(
+  name.getBoundingClientRect())).map((name) => name.textContent))(
+  document.querySelector('#messages').getBoundingClientRect(), {CHART}.querySelector('.plate').getBoundingClientRect())"""
 # How far each of these names is from the chart's own, where nothing is scrolled.
 NAMES_APART = f"""((own) => [...{CHART}.querySelectorAll('.heads text')].map((name, at) => Math.round(Math.abs(
   name.getBoundingClientRect().top - own[at].getBoundingClientRect().top))))(
@@ -116,8 +121,9 @@ def check_names_of_chart(bench):
                 page.load(name)
                 page.click("run")
                 page.show_pane("messages")
-                for place in ("0", "10000"):
+                for place in ("0", "14", "22", "30", "10000"):
                     page.value(f"document.querySelector('#messages').scrollTop = {place}")
+                    same(page.value(NAMES_TWICE), [], f"which names of {name} are seen twice at {width}, at {place}")
                     same(page.value(NAMES_SEEN), [[it, True, 0] for it in names],
                          f"the names in {name} at {width} by {height}, scrolled to {place}")
         same(page.value(f"[...{CHART}.querySelectorAll('.heads')].map((it) => it.ariaHidden)"), ["true"],
