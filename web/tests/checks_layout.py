@@ -201,6 +201,24 @@ def check_focus_in_sight(bench):
              ["Line 3", True, True], "the line that an arrow key goes to, and whether it is in sight")
 
 
+# Of each label of the file's panel whose it is, and whether its field stands in the same line, at its right.
+LABELS_OF_FILE = """[...document.querySelectorAll('#file label')].map((label) => {
+  const [words, field] = [label, document.getElementById(label.htmlFor)].map((it) => it.getBoundingClientRect());
+  const apart = Math.abs((words.top + words.bottom) / 2 - (field.top + field.bottom) / 2);
+  return [label.htmlFor, apart < 3 && words.right < field.left && field.left - words.right < 20];
+})"""
+
+
+def check_labels_of_file(bench):
+    """The labels of the script's name and its pages stand beside their fields, however narrow the window is."""
+    with bench.kept_page() as page:
+        page.load("hello")
+        page.click("file-button")
+        for width in (1280, 390, 360, 320):
+            page.tab.resize(width, 700)
+            same(page.value(LABELS_OF_FILE), [["name", True], ["pages", True]], f"which labels are beside, {width}")
+
+
 def check_on_paper(bench):
     """On paper all lines are seen with what is told of them, memory is, and no controls are."""
     with bench.kept_page() as page:

@@ -146,9 +146,9 @@ LEAST_WORD = 11
 
 
 def check_words_of_figures(bench):
-    """In a window of a classroom's screen and of a phone no word of a picture is too small, or wider than its place."""
+    """In the windows of screens, tablets and phones no word of a picture is too small, or wider than its place."""
     with bench.kept_page() as page:
-        for width, height in ((1280, 720), (390, 844)):
+        for width, height in ((1280, 720), (390, 844), (1024, 768), (768, 1024), (320, 640)):
             page.tab.resize(width, height)
             for name in ("transfer", "pages", "made-areas", "lessons/holes"):
                 page.load(name)
