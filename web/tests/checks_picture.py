@@ -80,6 +80,9 @@ def check_scrolled(bench):
         widths = page.value(f"{FRAMES}.map((it) => it.querySelector('svg').getBoundingClientRect().width "
                             "/ it.getBoundingClientRect().width)")
         holds(min(widths) > 0.95, f"in a wide window figures take {widths} of their frames")
+        # A bar for scrolling, which tests don't see, takes some of a window of 1,280.
+        page.tab.resize(1264, 720)
+        holds(page.value(f"{FRAMES}.every((it) => it.scrollWidth <= it.clientWidth)"), "a wide picture is scrolled")
         page.tab.resize(420, 900)
         show_step(page)
         holds(page.value(f"{FRAMES}.every((it) => it.scrollWidth > it.clientWidth + 100)"), "nothing can be scrolled")
