@@ -1,12 +1,13 @@
 // Bytes on their way: at a step that copies some of a document into a buffer, or of a buffer into a document, these fly
 // from card to card. Which ones, from where and to where stands in the module's own words and on its cards.
 
-import { LESS_MOTION, MOTION } from "./movement.js";
+import { LESS_MOTION, MOTION, layerOver } from "./movement.js";
 
 const MOST_CHIPS = 16;
 const FLIGHT = { duration: 600, easing: MOTION.easing, fill: "both" };
-// So long after the one before it a chip begins.
+// So long after the one before it a chip begins, and so wide it is.
 const APART = 40;
+const WIDTH = 16;
 const INTO_BUFFER = /^([1-9]\d*) bytes? into the buffer of (.+) at (&[0-9A-F]+)$/;
 const INTO_DOCUMENT = /^Flex block (\d+) had (\d+) bytes?, now (\d+)$/;
 const TAKES = /^(.+) takes RAMTransmit \d+$/;
@@ -61,13 +62,12 @@ function wayIntoDocument(before, cards, changes) {
 export const copiesBytes = (changes) => changes.some((text) => INTO_BUFFER.test(text)
   || INTO_DOCUMENT.test(text) && changes.some((other) => TAKES.test(other)));
 
-// One byte on its way, the so manieth of those that fly together.
-function chipOf(byte, at, from, to) {
+// A byte that is to fly.
+function chipOf(byte) {
   const chip = document.createElement("span");
   chip.className = "byte";
   chip.textContent = byte > 32 && byte < 127 ? String.fromCharCode(byte) : "·";
-  const path = [from, to].map(({ x, y }) => ({ transform: `translate(${x + at * 16}px, ${y}px)` }));
-  return [chip, () => chip.animate(path, { ...FLIGHT, delay: at * APART }).finished];
+  return chip;
 }
 
 // Lets the bytes that a command has copied fly over a figure, from the cards that it had before to those that it has.
@@ -77,11 +77,11 @@ export function flyBytes(figure, before, changes) {
   const way = wayIntoBuffer(before, cards, changes) ?? wayIntoDocument(before, cards, changes);
   if (!way?.bytes.length) return;
   const corner = figure.getBoundingClientRect();
-  const [from, to] = [way.from, way.to].map(({ place }) => ({ x: place.x - corner.x, y: place.y - corner.y }));
-  const layer = document.createElement("div");
-  Object.assign(layer, { className: "flying", ariaHidden: "true" });
-  const chips = way.bytes.slice(0, MOST_CHIPS).map((byte, at) => chipOf(byte, at, from, to));
-  layer.append(...chips.map(([chip]) => chip));
-  figure.append(layer);
-  Promise.allSettled(chips.map(([, fly]) => fly())).then(() => layer.remove());
+  const chips = way.bytes.slice(0, MOST_CHIPS).map(chipOf);
+  layerOver(figure, chips, (chip) => {
+    const at = chips.indexOf(chip);
+    const path = [way.from, way.to].map(({ place: { x, y } }) => (
+      { transform: `translate(${x - corner.x + at * WIDTH}px, ${y - corner.y}px)` }));
+    return chip.animate(path, { ...FLIGHT, delay: at * APART });
+  });
 }

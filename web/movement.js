@@ -6,6 +6,7 @@ export const MOTION = { duration: 420, easing: "cubic-bezier(.3, 0, .2, 1)" };
 const ARROWS = ".casing, .ghost, .slide, .msg.now, .mname.now";
 const LATE = { duration: 150, delay: MOTION.duration, fill: "backwards" };
 const UNSEEN = [{ opacity: 0 }, { opacity: 1 }];
+const GONE = [{ opacity: 1 }, { opacity: 0 }];
 // What moves, by the beginning of its title.
 const MOVABLE = /^(?:flex block \d+|message \d+|(?:used|hole) &[0-9A-F]+)/;
 export const LESS_MOTION = matchMedia("(prefers-reduced-motion: reduce)");
@@ -28,7 +29,7 @@ function addParts(parts, svg) {
     while (parts.has(`${owner}, ${name}, ${piece}`)) piece++;
     const place = { x: numberOf(element, "x"), y: numberOf(element, "y"), width: numberOf(element, "width") };
     const label = element.nextElementSibling?.matches(".lab") ? element.nextElementSibling : undefined;
-    parts.set(`${owner}, ${name}, ${piece}`, { element, label, address, rows, place });
+    parts.set(`${owner}, ${name}, ${piece}`, { owner, element, label, address, rows, place });
   }
 }
 
@@ -50,10 +51,42 @@ function move({ element, label, rows, place }, before) {
   label?.animate([{ transform: `translate(${right}px, ${y - place.y}px)` }, { transform: "none" }], MOTION);
 }
 
-// Moves the parts of a picture from where those of another one were, unless less motion is asked for.
+// A layer over a figure, which isn't told to those who listen. It goes once all that moves on it has come to its end.
+export function layerOver(figure, elements, animate) {
+  const layer = document.createElement("div");
+  Object.assign(layer, { className: "flying", ariaHidden: "true" });
+  layer.append(...elements);
+  figure.append(layer);
+  Promise.allSettled(elements.map((it) => animate(it).finished)).then(() => layer.remove());
+}
+
+// A part that is gone, as it was, where its row is now; upon a plate that lies over the picture of its slot.
+function ghostOf(figure, { owner, element, address, place: { x, width } }) {
+  const isOwn = (it) => it.querySelector("title").textContent === owner;
+  const svg = [...figure.querySelectorAll(".memory svg")].find(isOwn);
+  const label = [...svg?.querySelectorAll(".addr") ?? []].find((it) => it.textContent === address);
+  const row = label && [...svg.querySelectorAll(".row")].find((it) => numberOf(it, "y") < numberOf(label, "y")
+    && numberOf(label, "y") < numberOf(it, "y") + numberOf(it, "height"));
+  if (!row) return [];
+  const ghost = element.cloneNode(false);
+  const plate = svg.cloneNode(false);
+  const [corner, seen] = [figure, svg].map((it) => it.getBoundingClientRect());
+  for (const [name, value] of Object.entries({ x, y: numberOf(row, "y"), width })) ghost.setAttribute(name, value);
+  ghost.classList.remove("fresh");
+  plate.append(ghost);
+  const over = inUnits({ left: seen.left - corner.left, top: seen.top - corner.top, width: seen.width });
+  Object.assign(plate.style, { position: "absolute", ...over });
+  return [plate];
+}
+
+// Moves the parts of a picture from where those of another one were, and lets fade those that are gone, unless less
+// motion is asked for.
 export function moveParts(figure, before) {
   if (LESS_MOTION.matches) return;
-  for (const [key, part] of partsIn(figure)) {
+  const parts = partsIn(figure);
+  const gone = [...before].filter(([key]) => !parts.has(key)).flatMap(([, part]) => ghostOf(figure, part));
+  if (gone.length) layerOver(figure, gone, (ghost) => ghost.animate(GONE, MOTION));
+  for (const [key, part] of parts) {
     const old = before.get(key);
     if (old) move(part, old);
     else [part.element, part.label].forEach((it) => it?.animate(UNSEEN, MOTION));

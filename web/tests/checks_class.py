@@ -346,6 +346,36 @@ def check_movement(bench):
         page.tab.call("Emulation.setEmulatedMedia", features=[])
 
 
+# Steps on or back, and gives what fades over the picture then: its class, its units, and how far it is from a shape in
+# the picture.
+FADING = """((button, shape) => {
+  const tree = document.querySelector('#picture').shadowRoot;
+  document.querySelector(button).click();
+  const fades = tree.getAnimations().map(({ effect }) => effect.target).filter((it) => it.closest('.flying'));
+  return fades.map(({ firstChild: it }) => {
+    const [one, other] = [it, tree.querySelector(`.memory ${shape}`)].map((at) => at.getBoundingClientRect());
+    return [it.getAttribute('class'), ...['x', 'y', 'width'].map((name) => Number(it.getAttribute(name))),
+      Math.round(Math.max(...['x', 'y', 'right', 'bottom'].map((name) => Math.abs(one[name] - other[name]))))];
+  });
+})('%s', '%s')"""
+
+
+def check_fading(bench):
+    """What is gone fades where it was, over the picture, and nothing stays of it; none where less motion is wanted."""
+    with bench.kept_page() as page:
+        page.load("lessons/holes")
+        page.value(f"document.querySelector('{LINE % 10}').click()")
+        # The second of three blocks of 312 bytes with their headers begins 584 bytes above &8000.
+        same(page.value(FADING % ("#step", ".hole")), [["used t0", 150 + 146, 3, 78, 0]], "what fades at a release")
+        page.tab.wait(lambda: page.value("!document.querySelector('#picture').shadowRoot.querySelector('.flying')"),
+                      "what is gone stays over the picture")
+        [hole] = page.value(FADING % ("#back", ".used"))
+        same(hole[:4], ["hole", 150 + 146, 3, 78], "what fades on the way back")
+        page.tab.call("Emulation.setEmulatedMedia", features=[{"name": "prefers-reduced-motion", "value": "reduce"}])
+        same(page.value(FADING % ("#step", ".hole")), [], "what fades where less motion is asked for")
+        page.tab.call("Emulation.setEmulatedMedia", features=[])
+
+
 # Steps on or back, and gives the bytes that fly then: each one's character, the names of the cards over which it is at
 # first and at last, and how many milliseconds behind the first one it begins. Those before are looked for at first.
 FLYING = """((button) => {
