@@ -97,7 +97,7 @@ module _ (open_desk : OpenDesk) {old : Console} (is : open_desk.console ≡ Some
   console_now = record { world = world; said = old.said; command = old.command }
 
   abbrev station_now : OpenDesk
-  station_now = record { files = open_desk.files; console = Some console_now }
+  station_now = record { files = open_desk.files; console = Some console_now; held = open_desk.held }
 
   pub edited-said : (s : Option Desk) → SeenBy open_desk.console s → said ≡ called_by s edit
   edited-said s seen = go s (subst (λ h. SeenBy h s) is seen)
@@ -119,8 +119,8 @@ module _ (open_desk : OpenDesk) {old : Console} (is : open_desk.console ≡ Some
   pub edited-refused : status_of said ≢ 0 → station_now ≡ open_desk
   edited-refused bad =
       let with_world : Shown → OpenDesk = λ w.
-      record { files = open_desk.files; console = Some (record { world = w; said = old.said; command = old.command }) } in
-      let with_console : Option Console → OpenDesk = λ h. record { files = open_desk.files; console = h } in
+      record { files = open_desk.files; console = Some (record { world = w; said = old.said; command = old.command }); held = open_desk.held } in
+      let with_console : Option Console → OpenDesk = λ h. record { files = open_desk.files; console = h; held = open_desk.held } in
       ap with_world (edits.refused bad) ∙ ap with_console (sym is)
 
 -- ---- where the desk isn't open

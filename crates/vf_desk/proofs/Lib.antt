@@ -1,4 +1,5 @@
 mod FreshLaws
+mod PenLaws
 mod PrintLaws
 mod SaidLaws
 pub mod Pairs

@@ -1,30 +1,13 @@
 -- What lent bytes have of a text that was printed into them.
-use Rattle.std.proofs.Common.{◌≡◌, ℕ, ◌≤◌, List, [], ◌++◌, length, Some, None, Result, Ok, Err, refl, sym, ap, ◌∙◌, arith, take, take_all, ◌∷◌}
+use Rattle.std.proofs.Common.{◌≡◌, ℕ, ◌≤◌, List, [], ◌++◌, length, Some, None, refl, sym, ap, ◌∙◌, arith, take, take_all, ◌∷◌}
 use Rattle.std.specs.Prelude.{nat_le, drop, true, if◌then◌else◌}
 use borrow.Author.Tests.{tests}
-use Rattle.rh_lines.proofs.TextLemmas.{writes_all, wrote}
-use Rattle.rh_lines.specs.Flow.{Puts}
-use Rattle.rh_lines.specs.WholeText.{before_of, whole_bytes, filled, output_of, whole_text}
-use Rattle.rh_lines.specs.declared.whole_text.WholeText.{WholeText}
+use Rattle.rh_lines.specs.WholeText.{filled}
 use Rattle.vf_desk.specs.Console.{Prints}
-
--- all of a text was written into the bytes that were lent
-pub record Printed (old new : WholeText) (text : List ℕ) : Type 0 where
-  pub name : (whole_bytes new).ghost_name ≡ (whole_bytes old).ghost_name
-  pub before : before_of new ≡ before_of old
-  pub text_is : whole_text new ≡ text
 
 -- what is the same as these bytes
 pub bytes-are : {now bytes all : List ℕ} → bytes ≡ all → now ≡ bytes → now ≡ all
 bytes-are are is = is ∙ are
-
--- whatever printing it answers, as no write fails
-pub printed : {E : Type 0} (old new : WholeText) (r : Result Unit E) (text : List ℕ) → whole_text old ≡ [] → Puts (output_of old) (output_of new) r text
-    → Printed old new text
-printed old new (Ok u) text none puts =
-    let w = wrote puts.ok in
-    record { name = w.same_reference; before = w.before; text_is = w.text ∙ ap (λ l. l ++ text) none }
-printed old new (Err e) text none puts = absurd (writes_all old new puts.err)
 
 -- a text in bytes that have room for it
 pub filled-whole : (text old : List ℕ) → length text ≤ length old → filled text old ≡ text ++ drop (length text) old

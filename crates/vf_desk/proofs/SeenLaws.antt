@@ -78,7 +78,7 @@ module _ (open_desk : OpenDesk) {old : Console} (is : open_desk.console ≡ Some
   console_now = record { world = world; said = old.said; command = old.command }
 
   abbrev pub station_now : OpenDesk
-  station_now = record { files = open_desk.files; console = Some console_now }
+  station_now = record { files = open_desk.files; console = Some console_now; held = open_desk.held }
 
   pub done-said : (s : Option Desk) → SeenBy open_desk.console s → said ≡ called s command
   done-said s seen = go s (subst (λ h. SeenBy h s) is seen)
@@ -100,8 +100,8 @@ module _ (open_desk : OpenDesk) {old : Console} (is : open_desk.console ≡ Some
   done-same : world ≡ old.world → station_now ≡ open_desk
   done-same same =
       let with_world : Shown → OpenDesk = λ w.
-      record { files = open_desk.files; console = Some (record { world = w; said = old.said; command = old.command }) } in
-      let with_console : Option Console → OpenDesk = λ h. record { files = open_desk.files; console = h } in
+      record { files = open_desk.files; console = Some (record { world = w; said = old.said; command = old.command }); held = open_desk.held } in
+      let with_console : Option Console → OpenDesk = λ h. record { files = open_desk.files; console = h; held = open_desk.held } in
       ap with_world same ∙ ap with_console (sym is)
 
   pub done-refused : status_of said ≢ 0 → station_now ≡ open_desk

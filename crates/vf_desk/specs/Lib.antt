@@ -14,3 +14,4 @@ pub mod Next
 pub mod Opening
 pub mod Said
 pub mod SeenDesk
+pub mod TextPens

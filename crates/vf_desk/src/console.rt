@@ -1,5 +1,5 @@
 //! A desk that takes lines.
-ghost use Rattle.std.specs.Prelude.{◌≡◌, ◌-◌, ◌^◌, length, min, true, Some, Ok};
+ghost use Rattle.std.specs.Prelude.{◌≡◌, ◌-◌, ◌^◌, ◌++◌, length, min, true, Some, Ok};
 ghost use Rattle.rh_defs.specs.Desk.{Desk};
 ghost use Rattle.rh_defs.specs.Order.{IsReordered};
 ghost use Rattle.rh_defs.specs.Range.{in_range};
@@ -10,6 +10,7 @@ ghost use Rattle.vf_desk.specs.Console.{Prints};
 
 use crate::desk_files::DeskFiles;
 use crate::said::Said;
+use crate::text_pen::{Text, TextPen};
 use rh_defs::{Command, Question};
 use rh_heap_index::PageStore;
 use rh_lines::{WholeText, read_line};
@@ -18,12 +19,6 @@ use std::mem;
 
 /// A world over scattered pages, with files that were copied or lent.
 pub type PagedWorld = World<PageStore, DeskFiles>;
-
-/// The reply to any other command than a question has at most so many bytes: those of an event with all its words.
-const LONGEST_REPLY: usize = 96;
-
-/// So many bytes of a list are printed before they are known to have room: the text of most lists.
-const MOST_HELD: usize = 1_000;
 
 /// A world, what the last line was answered, and the place of each line's command.
 #[derive(Drop)]
@@ -74,8 +69,17 @@ impl Console {
             to.new ≡ filled (said_text d self.now.said) to.old }
     {
         let mut text = WholeText::new(to);
-        let _done = self.said.print(&self.world, &mut text);
+        self.print_into(&mut text);
         text.length()
+    }
+
+    /// Writes the text of what the last line was answered, over the desk as it is now.
+    fn print_into<T: Text>(&self, text: &mut T)
+        ensures { (d : Desk) → IsReordered d self.now.world.desk →
+            T.content text.new ≡ T.content text.old ++ said_text d self.now.said }
+    {
+        let mut pen = TextPen::new(text);
+        self.said.put(&self.world, &mut pen);
     }
 
     /// Does what `print` does. Where the text has room in what is held, it is printed once, and copied from there.
@@ -94,20 +98,16 @@ impl Console {
     }
 
     /// Puts the text of what the last line was answered into lent bytes, over the desk as it is now, and answers how
-    /// many bytes it has; those behind it stay. None where the text is longer, and then all stay as they were.
-    pub fn print(&self, to: &mut [u8]) -> Option<usize>
+    /// many bytes it has; those behind it stay. None where the text is longer, and then all stay as they were. It may
+    /// be held in other lent bytes before.
+    pub fn print(&self, held: &mut [u8], to: &mut [u8]) -> Option<usize>
         ensures { (d : Desk) → IsReordered d self.now.world.desk →
             Prints (said_text d self.now.said) to.old to.new result }
     {
-        if let Some(text) = self.said.fixed_text() {
-            return put_whole(text, to);
+        match self.said.fixed_text() {
+            Some(text) => put_whole(text, to),
+            None => self.print_by(held, to),
         }
-        if let Said::Told(_) = &self.said {
-            let mut held = [0; MOST_HELD];
-            return self.print_by(&mut held, to);
-        }
-        let mut held = [0; LONGEST_REPLY];
-        self.print_by(&mut held, to)
     }
 }
 

@@ -7,6 +7,7 @@ ghost use Rattle.vf_desk.specs.DeskLines.{Fills, Replies, TakesLine};
 
 use crate::console::Console;
 use crate::desk::VfDesk;
+use crate::held::Held;
 use crate::open_desk::OpenDesk;
 use crate::status::{CLOSED, OK, SHORT};
 use std::alloc::Global;
@@ -36,7 +37,7 @@ pub extern "C" fn vf_desk_reply(
     ensures replies { Replies desk.old.handle.open_desk text.old text.new length.old length.new result }
     ensures same { desk.new.handle.open_desk ≡ desk.old.handle.open_desk }
 {
-    let Some(open_desk) = desk.take(alloc) else {
+    let Some(mut open_desk) = desk.take(alloc) else {
         return CLOSED;
     };
     let status = open_desk.reply(text, length);
@@ -59,22 +60,23 @@ impl OpenDesk {
     }
 
     /// Puts the text of the reply that is kept into lent bytes, and tells its length: CLOSED, SHORT.
-    fn reply(&self, text: &mut [u8], length: &mut usize) -> u32
-        ensures { Replies (Some self.now) text.old text.new length.old length.new result }
+    fn reply(&mut self, text: &mut [u8], length: &mut usize) -> u32
+        ensures replies { Replies (Some self.old) text.old text.new length.old length.new result }
+        ensures same { self.new ≡ self.old }
     {
         match &self.console {
-            Some(console) => fill(console, text, length),
+            Some(console) => fill(console, &mut self.held, text, length),
             None => CLOSED,
         }
     }
 }
 
 /// Puts the text of the reply that is kept into lent bytes, and tells its length if there is room for it.
-fn fill(console: &Console, text: &mut [u8], length: &mut usize) -> u32
+fn fill(console: &Console, held: &mut Held, text: &mut [u8], length: &mut usize) -> u32
     ensures { (d : Desk) → IsReordered d console.now.world.desk →
         Fills (said_text d console.now.said) text.old text.new length.old length.new result }
 {
-    match console.print(text) {
+    match held.print(console, text) {
         Some(n) => {
             *length = n;
             OK

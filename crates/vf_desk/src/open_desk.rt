@@ -12,14 +12,16 @@ use crate::call_outcome::CallOutcome;
 use crate::console::{Console, PagedWorld};
 use crate::desk_files::DeskFiles;
 use crate::forms::{anchor_of, name_of};
+use crate::held::Held;
 use rh_defs::sizes::GREATEST_NUMBER;
 use rh_defs::{Command, Reply};
 
-/// The files that wait for a desk to be opened, and the desk from then on.
+/// The files that wait for a desk to be opened, the desk from then on, and bytes that its replies are printed in.
 #[derive(Drop)]
 pub struct OpenDesk {
     pub files: DeskFiles,
     pub console: Option<Console>,
+    pub held: Held,
 }
 
 impl OpenDesk {

@@ -10,6 +10,7 @@ use crate::console::{Console, PagedWorld};
 use crate::desk::VfDesk;
 use crate::desk_files::{DeskFiles, NewFile};
 use crate::forms::name_of;
+use crate::held::Held;
 use crate::open_desk::OpenDesk;
 use crate::said::Said;
 use crate::status::{BAD_ARGUMENT, BAD_LENGTH, FILE_EXISTS, NO_MEMORY, OK, OPEN};
@@ -138,13 +139,14 @@ pub extern "C" fn vf_desk_close(alloc: Global, desk: &mut VfDesk) -> u32
 
 impl OpenDesk {
     /// No file, and no desk that is open.
-    fn new(alloc: Global) -> OpenDesk
+    fn new(alloc: Global, held: Held) -> OpenDesk
         ensures files { result.files ≡ [] }
         ensures console { result.console ≡ None }
     {
         OpenDesk {
             files: DeskFiles::new(alloc),
             console: None,
+            held,
         }
     }
 
@@ -152,7 +154,8 @@ impl OpenDesk {
     fn new_box(alloc: Global) -> Option<Box<OpenDesk>>
         ensures { IfSome result (λ open_desk. (open_desk.value.files ≡ []) × (open_desk.value.console ≡ None)) }
     {
-        match Box::new(alloc, OpenDesk::new(alloc)) {
+        let held = Held::new(alloc).ok()?;
+        match Box::new(alloc, OpenDesk::new(alloc, held)) {
             Ok(open_desk) => Some(open_desk),
             Err(_) => None,
         }

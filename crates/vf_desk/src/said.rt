@@ -1,13 +1,12 @@
 //! What a line is answered, and its text.
-ghost use Rattle.std.specs.Prelude.{◌≡◌, IfSome};
+ghost use Rattle.std.specs.Prelude.{◌≡◌, ◌++◌, IfSome};
 ghost use Rattle.rh_defs.specs.Desk.{Desk};
 ghost use Rattle.rh_defs.specs.Order.{IsReordered};
-ghost use Rattle.rh_lines.specs.Flow.{Puts};
 ghost use Rattle.vf_desk.specs.Said.{said_text};
 
 use rh_defs::{LineFault, Question, Reply};
-use rh_lines::{Sink, WriteFailed, print_fault, print_first_line};
-use rh_script::print_answer;
+use rh_lines::{Pen, put_fault, put_first_line};
+use rh_script::put_answer;
 use rh_store::Store;
 use rh_tasks::{NamedFiles, World};
 
@@ -34,25 +33,22 @@ impl Said {
             Said::Nothing => Some(b""),
             Said::Reply(Reply::Done) => Some(b"ok\n"),
             Said::Reply(Reply::NoEvent) => Some(b"ok 0\n"),
+            Said::Reply(Reply::WasBudging(true)) => Some(b"ok on\n"),
+            Said::Reply(Reply::WasBudging(false)) => Some(b"ok off\n"),
             _ => None,
         }
     }
 
-    /// Writes the text of it over the desk after the line. Fails only where the writer failed or took none of what it
-    /// was offered; a front of the text is then written.
-    pub fn print<S: Store, F: NamedFiles, W: Sink>(
-        &self,
-        world: &World<S, F>,
-        writer: &mut W,
-    ) -> Result<(), WriteFailed>
-        ensures { (d : Desk) → IsReordered d world.now.desk → Puts (W.output writer.old) (W.output writer.new) result
-            (said_text d self.now) }
+    /// Writes the text of it over the desk after the line.
+    pub fn put<S: Store, F: NamedFiles, P: Pen>(&self, world: &World<S, F>, pen: &mut P)
+        ensures { (d : Desk) → IsReordered d world.now.desk →
+            P.offered pen.new ≡ P.offered pen.old ++ said_text d self.now }
     {
         match self {
-            Said::Nothing => Ok(()),
-            Said::Fault(fault) => print_fault(fault, writer),
-            Said::Reply(reply) => print_first_line(reply, writer),
-            Said::Told(question) => print_answer(world, question, writer),
+            Said::Nothing => {}
+            Said::Fault(fault) => put_fault(fault, pen),
+            Said::Reply(reply) => put_first_line(reply, pen),
+            Said::Told(question) => put_answer(world, question, pen),
         }
     }
 }

@@ -12,7 +12,7 @@ returns-in_default-clause-same c = c.in_default.ensures.left ∙ c.in_default.en
 
 pub returns-clause-replies : goal.returns-clause-replies
 returns-clause-replies c = subst (λ h. Replies h c.args.text.now c.reply-status.new.text c.args.length.now c.reply-status.new.length c.reply-status.result)
-    (ap Some c.deref.ensures ∙ c.in-Some.ensures.taken) c.reply-status.ensures
+    (ap Some c.deref_mut.ensures.value ∙ c.in-Some.ensures.taken) c.reply-status.ensures.replies
 
 pub returns-clause-same : goal.returns-clause-same
-returns-clause-same c = c.put.ensures ∙ c.in-Some.ensures.taken
+returns-clause-same c = c.put.ensures ∙ (ap Some (c.reply-status.ensures.same ∙ c.deref_mut.ensures.value) ∙ c.in-Some.ensures.taken)

@@ -1,5 +1,0 @@
-use Rattle.rh_defs.proofs.QuestionLaws.{asked-alike}
-use Rattle.vf_desk.proofs.said.Said.print.Goals as goal
-
-pub returns-in-Told : goal.returns-in-Told
-returns-in-Told g c = λ d same. rw (c.in-Told.is, ← asked-alike same c.in-Told.question) c.print_answer.ensures
