@@ -17,18 +17,20 @@ const PAIRS = /^(?:[0-9a-f]{2})+/;
 const partsOfFirst = (texts, form) => texts.map((text) => form.exec(text)?.slice(1)).find(Boolean) ?? [];
 
 // The cards of the slots in a picture of memory: whose each is, its name, the transfers that use it, the bytes that it
-// shows, and where these stand in the window.
+// shows, and where these stand in the picture, in pixels from its left and upper edge.
 export function cardsIn(figure) {
+  const corner = figure.getBoundingClientRect();
   return [...figure.querySelectorAll(".memory svg .first")].map((first) => {
     const words = first.nextElementSibling;
     const shown = words?.nextElementSibling;
     const [pairs = ""] = shown?.matches(".line") ? PAIRS.exec(shown.textContent) ?? [] : [];
+    const { left, top, bottom } = (pairs ? shown : words ?? first).getBoundingClientRect();
     return {
       slot: first.parentNode.querySelector("title").textContent.replace("The slot of ", ""),
       name: first.textContent,
       transfers: words?.textContent.split(", ").slice(1) ?? [],
       bytes: (pairs.match(/../g) ?? []).map((pair) => parseInt(pair, 16)),
-      place: (pairs ? shown : words ?? first).getBoundingClientRect(),
+      place: { left: left - corner.left, top: top - corner.top, bottom: bottom - corner.top },
     };
   });
 }
@@ -71,17 +73,18 @@ function chipOf(byte) {
 }
 
 // Lets the bytes that a command has copied fly over a figure, from the cards that it had before to those that it has.
+// Gives where the bytes of both cards stand in the picture, or nothing.
 export function flyBytes(figure, before, changes) {
-  if (LESS_MOTION.matches) return;
   const cards = cardsIn(figure);
   const way = wayIntoBuffer(before, cards, changes) ?? wayIntoDocument(before, cards, changes);
-  if (!way?.bytes.length) return;
-  const corner = figure.getBoundingClientRect();
+  if (!way?.bytes.length) return [];
+  const places = [way.from.place, way.to.place];
+  if (LESS_MOTION.matches) return places;
   const chips = way.bytes.slice(0, MOST_CHIPS).map(chipOf);
   layerOver(figure, chips, (chip) => {
     const at = chips.indexOf(chip);
-    const path = [way.from, way.to].map(({ place: { x, y } }) => (
-      { transform: `translate(${x - corner.x + at * WIDTH}px, ${y - corner.y}px)` }));
+    const path = places.map(({ left, top }) => ({ transform: `translate(${left + at * WIDTH}px, ${top}px)` }));
     return chip.animate(path, { ...FLIGHT, delay: at * APART });
   });
+  return places;
 }

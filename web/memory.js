@@ -162,9 +162,10 @@ export class Memory {
     this.#chart.show(style, messages, [], isBeside);
   }
 
-  // Brings the last messages into view, once all of the page is as high as it gets.
+  // Brings what has changed and the last messages into view, once all of the page is as high as it gets.
   settle() {
-    const { messages } = this.#parts;
+    const { frame, messages } = this.#parts;
+    this.#picture.bringIntoView(frame);
     if (!messages.hidden) messages.scrollTop = messages.scrollHeight;
   }
 

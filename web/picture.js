@@ -2,7 +2,7 @@
 
 import { shownText } from "./bytes.js";
 import { cardsIn, copiesBytes, flyBytes } from "./flight.js";
-import { moveParts, partsIn } from "./movement.js";
+import { LESS_MOTION, moveParts, partsIn } from "./movement.js";
 import { element } from "./prose.js";
 
 // The style of a sheet; a browser would refuse one that it finds in a page.
@@ -55,6 +55,17 @@ function copies(elements) {
 const HEADS = 24;
 const EDGE = 2;
 
+// What has changed of slots and of the module area; and how much around it is to be in sight, and how much above the
+// bytes on a card, in pixels.
+const CHANGED = ".memory svg .fresh:not(.cell)";
+const MARGIN = 8;
+const ABOVE_BYTES = 40;
+
+// From where to where places reach, with what is above them.
+function reachOf(places, above) {
+  return [Math.min(...places.map((it) => it.top)) - above, Math.max(...places.map((it) => it.bottom)) + MARGIN];
+}
+
 // The names above a chart once more, on a plate as wide as it: they stay in sight where it is scrolled.
 function headsOf(chart) {
   const heads = chart.cloneNode(false);
@@ -106,6 +117,11 @@ export class Picture {
   #figure = document.createElement("div");
   #sheetStyle = new CSSStyleSheet();
   #styleText;
+  // From where to where the figure is to be brought into view, once that can be done; whether its end matters more than
+  // its beginning; and whether it may be seen gliding.
+  #due;
+  #endMatters = false;
+  #glides = false;
 
   // Of the element in which it stands, and what is added to the sheet's style.
   constructor(host, addedStyle) {
@@ -134,7 +150,31 @@ export class Picture {
     const chart = this.#figure.querySelector("aside > svg");
     if (chart) this.#figure.prepend(headsOf(chart));
     if (before) moveParts(this.#figure, before);
-    if (cards) flyBytes(this.#figure, cards, changes);
+    const ways = cards ? flyBytes(this.#figure, cards, changes) : [];
+    [this.#glides, this.#endMatters] = [isBeside, ways.length > 0];
+    this.#due = ways.length ? reachOf(ways, ABOVE_BYTES) : this.#changed;
+  }
+
+  // From where to where something has changed in the figure, or nothing.
+  get #changed() {
+    const { top: above } = this.#figure.getBoundingClientRect();
+    const places = [...this.#figure.querySelectorAll(CHANGED)].map((it) => it.getBoundingClientRect())
+      .map(({ top, bottom }) => ({ top: top - above, bottom: bottom - above }));
+    return places.length ? reachOf(places, MARGIN) : undefined;
+  }
+
+  // Brings what has changed into the view of an element in which the figure is scrolled. Where there isn't room for all,
+  // that is its beginning, or the card to which bytes go. What is in view stays where it is.
+  bringIntoView(scroller) {
+    if (!this.#due || !scroller.clientHeight) return;
+    const above = this.#figure.getBoundingClientRect().top - scroller.getBoundingClientRect().top + scroller.scrollTop;
+    const [first, last] = this.#due.map((it) => it + above);
+    this.#due = undefined;
+    const { clientHeight: room, scrollTop } = scroller;
+    if (first >= scrollTop && last <= scrollTop + room) return;
+    const isWhole = last - first <= room;
+    const top = (isWhole ? first < scrollTop : !this.#endMatters) ? first : last - room;
+    scroller.scrollTo({ top, behavior: this.#glides && !LESS_MOTION.matches ? "smooth" : "auto" });
   }
 
   get #frames() {

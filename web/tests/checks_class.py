@@ -400,15 +400,18 @@ FLYING = """((button) => {
 })('%s')"""
 
 
+WRITER, BUFFER, READER = (f"The slot of {it}" for it in ("writer, anchor 0 &9008", "reader, buffer &8114",
+                                                         "reader, anchor 0 &9008"))
+# At which lines of the lesson which bytes go from which card to which one.
+WAYS = {12: ("let", WRITER, BUFFER), 15: ("let", BUFFER, READER), 17: ("ter", WRITER, BUFFER),
+        18: ("ter", BUFFER, READER), 21: ("s", WRITER, BUFFER), 25: ("s", BUFFER, READER)}
+
+
 def check_flight(bench):
     """Bytes that a step copies fly from document to buffer, and from buffer to document; not on the way back, nor where
     less motion is asked for; nothing stays of them."""
-    writer, buffer, reader = (f"The slot of {it}" for it in ("writer, anchor 0 &9008", "reader, buffer &8114",
-                                                             "reader, anchor 0 &9008"))
-    ways = {12: ("let", writer, buffer), 15: ("let", buffer, reader), 17: ("ter", writer, buffer),
-            18: ("ter", buffer, reader), 21: ("s", writer, buffer), 25: ("s", buffer, reader)}
     flown = {at: [[it, source, target, 40 * count] for count, it in enumerate(word)]
-             for at, (word, source, target) in ways.items()}
+             for at, (word, source, target) in WAYS.items()}
     with bench.kept_page() as page:
         page.load("lessons/small-buffer")
         seen = {}
@@ -422,6 +425,42 @@ def check_flight(bench):
         same(page.value(FLYING % "#back"), [], "what flies on the way back")
         page.tab.call("Emulation.setEmulatedMedia", features=[{"name": "prefers-reduced-motion", "value": "reduce"}])
         same(page.value(FLYING % "#step"), [], "what flies where less motion is asked for")
+        page.tab.call("Emulation.setEmulatedMedia", features=[])
+
+
+# Of what the last command has changed of slots and the module area, how many shapes are seen whole; how many there are;
+# and of the cards from which and to which its bytes went those that are seen too little: of the first one the lowest line
+# is enough.
+CHANGED_IN_SIGHT = """((source, target) => {
+  const figure = document.querySelector('#picture').shadowRoot.querySelector('.memory');
+  const { top, bottom } = document.querySelector('#frame').getBoundingClientRect();
+  const isSeen = (it, height) => ((place) => place.bottom <= bottom + 1
+    && Math.max(place.top, place.bottom - height) >= top - 1)(it.getBoundingClientRect());
+  const fresh = [...figure.querySelectorAll('svg .fresh:not(.cell)')];
+  const nameOf = ({ parentNode, nextElementSibling }) =>
+    `${parentNode.querySelector('title').textContent}, ${nextElementSibling.textContent}`;
+  const faint = [...figure.querySelectorAll('.card')].map((it) => [nameOf(it), it]).filter(([name, it]) =>
+    name === source && !isSeen(it, 17) || name === target && !isSeen(it, 1000));
+  return [fresh.filter((it) => isSeen(it, 1000)).length, fresh.length, faint.map(([name]) => name)];
+})(...%s)"""
+
+
+def check_changed_in_sight(bench):
+    """What a step has changed is in sight, and so are both cards between which bytes go, wide and on a phone."""
+    with bench.kept_page() as page:
+        page.tab.call("Emulation.setEmulatedMedia", features=[{"name": "prefers-reduced-motion", "value": "reduce"}])
+        for width, height, *names in ((1280, 720, "small-buffer", "death", "sliding"), (390, 844, "small-buffer")):
+            page.tab.call("Emulation.setDeviceMetricsOverride", width=width, height=height, deviceScaleFactor=1,
+                          mobile=False)
+            for name in names:
+                page.load(f"lessons/{name}")
+                while "step" not in page.disabled():
+                    page.click("step")
+                    line = int(page.value("document.querySelector('#shown b').textContent"))
+                    way = WAYS.get(line, ())[1:] if name == "small-buffer" else ()
+                    seen, count, unseen = page.value(CHANGED_IN_SIGHT % json.dumps(way))
+                    holds(seen or not count, f"nothing of {count} changes at line {line} of {name} is seen at {width}")
+                    same(unseen, [], f"which cards at line {line} of {name} aren't seen at {width}")
         page.tab.call("Emulation.setEmulatedMedia", features=[])
 
 
