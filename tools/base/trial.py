@@ -79,12 +79,16 @@ class Trial:
         return Said(self.crate, ran, texts)
 
     def check_group(self, group, beside):
-        """Checks the functions that a group's edits change, if that will do, or else the crate with those beside it."""
+        """Checks the functions that a group's edits change, and does nothing else if that will do.
+
+        Where nothing can be told of that, what they call is proved too, with the edits beside the group in it. Where the
+        edits lie outside of functions the whole crate is checked.
+        """
         if all(it.is_inside for it in group):
             said = self.check_spared(group)
             if not said.fault():
                 return said
-        return self.check([*group, *beside])
+        return self.check([*group, *beside], edits_of.functions_in(group))
 
     def judge_all(self, groups):
         """A verdict for each edit of all groups. What was refused stays beside the groups that follow."""
