@@ -501,10 +501,10 @@ def _lines_of(words):
     return [f"put {name} {anchor} {offset + at // 2} {digits[at:at + 2 * SPELLED]}" for at in pieces]
 
 
-# What of a sheet is its figure: the colours, the rules for figures, what they refer to, and the last figure's pieces.
-_COLOUR = re.compile(r"(--\w+): (#\w+);")
-_COLOURED = re.compile(r"var\((--\w+)\)")
-_RULES = re.compile(r"/\* figures \*/(.*?)/\* a link to a step", re.DOTALL)
+# What of a sheet is its figure: values by name, rules for figures, what they refer to, and the last figure's pieces.
+_VALUE = re.compile(r"(--\w+): ([^;]+);")
+_VALUED = re.compile(r"var\((--\w+)\)")
+_RULES = re.compile(r"/\* figures \*/(.*)", re.DOTALL)
 _RULE = re.compile(r"^([^@{}/\n]+) (\{.*\})$", re.MULTILINE)
 _DEFS = re.compile(r"<defs>.*?</defs>", re.DOTALL)
 _FIGURE = re.compile(r'<div class="memory">\n(.*?)</div>', re.DOTALL)
@@ -514,10 +514,13 @@ _FONT = "font-family: 'DejaVu Sans Mono', 'Liberation Mono', Menlo, Consolas, mo
 
 
 def _rules_of(sheet):
-    """The sheet's rules for figures, for a picture of the class `desk` alone."""
-    colours = dict(_COLOUR.findall(sheet))
-    coloured = _COLOURED.sub(lambda it: colours[it[1]], _RULES.search(sheet)[1])
-    rules = [(names.split(", "), rule) for names, rule in _RULE.findall(coloured)]
+    """The sheet's rules for figures on a light page, for a picture of the class `desk` alone."""
+    light = sheet.partition("@media")[0]
+    values = {name: " ".join(value.split()) for name, value in _VALUE.findall(light)}
+    valued = _RULES.search(light)[1]
+    while _VALUED.search(valued):
+        valued = _VALUED.sub(lambda it: values[it[1]], valued)
+    rules = [(names.split(", "), rule) for names, rule in _RULE.findall(valued)]
     kept = [(names, rule) for names, rule in rules if names[0] not in ("svg", ".defs")]
     return "\n".join(", ".join(f".desk {it}" for it in names) + f" {rule}" for names, rule in kept)
 
