@@ -507,6 +507,7 @@ _VALUED = re.compile(r"var\((--\w+)\)")
 _RULES = re.compile(r"/\* figures \*/(.*)", re.DOTALL)
 _RULE = re.compile(r"^([^@{}/\n]+) (\{.*\})$", re.MULTILINE)
 _DEFS = re.compile(r"<defs>.*?</defs>", re.DOTALL)
+_GRID, _GRID_USED = re.compile(r'<g id="grid">.*?</g>\n', re.DOTALL), '<use href="#grid"/>\n'
 _FIGURE = re.compile(r'<div class="memory">\n(.*?)</div>', re.DOTALL)
 _PIECE = re.compile(r'<h3>(.*?)</h3>|(<svg viewBox="0 0 (\d+) (\d+)" .*?</svg>)', re.DOTALL)
 _TAG = re.compile(r"<.*?>")
@@ -537,7 +538,10 @@ def _svg_of(sheet):
             top, wide = top + int(height) + 4, max(wide, int(width))
     style = f"<style>.desk text {{ {_FONT} }}\n{_rules_of(sheet)}</style>"
     head = f'<svg xmlns="http://www.w3.org/2000/svg" class="desk" viewBox="0 0 {wide} {top}">'
-    return "\n".join([head, style, _DEFS.search(sheet)[0], *pieces, "</svg>"])
+    # The pool's squares stand where they are used: a rule for what lies in a `desk` doesn't hold of what is used there.
+    defs, grid = _DEFS.search(sheet)[0], _GRID.search(sheet)[0]
+    picture = "\n".join([head, style, defs.replace(grid, ""), *pieces, "</svg>"])
+    return picture.replace(_GRID_USED, grid)
 
 
 class Desk:
