@@ -71,19 +71,30 @@ class Function:
         self.name, self.file, self.block, self.in_trait = read.name, read.file, read.block, read.in_trait
         self.is_the_only = is_the_only
         self.first, self.named, self.opens, self.end = read.first, read.named, read.opens, read.end
-        self.in_cycle = read.in_cycle
+        self.in_cycle, self.tactics = read.in_cycle, read.attributes
         self.owner = read.owner if read.block else ""
-        self.typed = _spelled(read.block) if read.block else ""
-        self.trait = "".join(filter(str.isidentifier, read.block.trait)) if read.in_trait else ""
-        self.modules = {read.module} | {module for module, *_ in types.get(self.owner, [])}
+        self.typed, self.trait = (_type_of(read.block), _trait_of(read.block)) if read.in_trait else ("", "")
+        of_type = {module for module, *_ in types.get(self.owner, [])}
+        self.modules = {read.module} | of_type
+        # Where its proof stands: that of a type's own method below the module of the type.
+        self.homes = {read.module} if self.trait or not of_type else of_type
 
     def ending(self):
         """What a check's name for it ends in, and no other's where the kit names its block by type and trait."""
         if self.in_trait and self.is_the_only:
             return self.name
         if self.block:
-            return f"{self.typed if self.in_trait else self.owner}{self.trait}::{self.name}"
+            return f"{self.block_name()}::{self.name}"
         return "::".join([*next(iter(self.modules)), self.name])
+
+    def block_name(self):
+        """What a check calls the block that has the method: its type, and the trait that it is of."""
+        return f"{self.typed}{self.trait}" if self.trait else self.owner
+
+    def proofs(self):
+        """Where a check looks for the function's proof, from the crate's folder."""
+        owner = [self.block_name()] if self.block else []
+        return ["/".join(["proofs", *module, *owner, self.name]) for module in sorted(self.homes)]
 
     def is_called(self, words):
         """Whether these words, what a check's name has below its module, are this function's."""
@@ -92,15 +103,23 @@ class Function:
         return words[1:] == [self.name] and self._is_owned_by(words[0])
 
     def _is_owned_by(self, word):
-        if self.in_trait:
+        if self.trait:
             return word != self.owner and self.block.fits(word)
         return word == self.owner
 
 
-def _spelled(block):
-    """The type of a block as a check's name for it has it: of `Vec<u64>` VecU64, with no parameters of the block."""
-    words = [it for it in block.ty if it.isidentifier() and it.replace("_", "").lower() in block.words]
-    return "".join(it[:1].upper() + it[1:] for it in words)
+def _type_of(block):
+    """A type as a check's name for a trait's block has it, without its parameters: of `&Vec<u64>` RefVecU64."""
+    return _spelled(it for it in block.ty if it == "&" or it.replace("_", "").lower() in block.words)
+
+
+def _trait_of(block):
+    """The trait in the same way, and nothing of `Drop`, whose method goes by its type alone."""
+    return _spelled(it for it in block.trait if it not in (*block.generics, "Drop"))
+
+
+def _spelled(words):
+    return "".join("Ref" if it == "&" else it[:1].upper() + it[1:] for it in words if it == "&" or it.isidentifier())
 
 
 def functions_of(folder):
@@ -262,7 +281,7 @@ def _share_a_function(group, edit):
 
 def applied(folder, edits):
     """The texts of the files that these edits change, by their paths, once all of them are applied."""
-    changes = sorted((it for edit in edits for it in edit.changes), key=lambda it: it.start, reverse=True)
+    changes = sorted((it for edit in edits for it in edit.changes), key=lambda it: (it.start, it.end), reverse=True)
     texts = {}
     for it in changes:
         text = texts[it.file] if it.file in texts else bytes_of(f"{folder}/{it.file}")

@@ -11,8 +11,11 @@ STANDS_ON = re.compile(r"it stands on (.*?),? which antt refuses")
 ERROR = re.compile(r"(?m)^(?:\./)?proofs/(\S+)\.antt:\d+:\d+: error: (?:`([^`]*)`: )?(.*)$")
 # What antt says of a proof that names what is no longer there: that refuses no statement.
 NAMES = re.compile(r"has no field|is not in scope|has no `|was not admitted")
+# What a line has that says that something isn't well; how many of a check's lines are told, and how much of each.
+ILL = re.compile(r"error|^note: src/|not proved|could not tell|depends on|not admitted|no verdict")
+MOST_LINES, MOST_OF_A_LINE = 8, 200
 PROOF_FILES = ("Answers", "Invariants", "Proof")
-ENDED = re.compile(r"(?m)^(only=\d+ )?holes=\d+$")
+ENDED = re.compile(r"(?m)^(?:(?:only=\d+ )?holes|only=\d+ proved)=\d+$")
 
 
 class Said:
@@ -40,6 +43,12 @@ class Said:
     def is_all_proved(self):
         """Whether nothing at all was refused."""
         return self.status == 0
+
+    def first_lines(self):
+        """The first lines by which the check says that something isn't well, or its last ones where none says so."""
+        lines = self.text.rstrip("\n").split("\n")
+        ill = [it for it in lines if ILL.search(it)]
+        return [it[:MOST_OF_A_LINE] for it in ill[:MOST_LINES] or lines[-MOST_LINES:]]
 
     def symbols(self, function):
         """The check's names for a function, and for the closures in it."""

@@ -10,18 +10,19 @@ import kit
 
 # What a check says as it ends with a function.
 ENDED = re.compile(r"checked ([^ ,]+), \d+ of \d+$")
-# Where a process's times stand, behind the bracket that ends its name, and in parts of what a second.
-TIMES, TICKS = slice(11, 13), os.sysconf("SC_CLK_TCK")
+# Where the times of a process stand behind the bracket that ends its name, with those of its children, and in parts of
+# what a second.
+TIMES, ALL_TIMES, TICKS = slice(11, 13), slice(11, 15), os.sysconf("SC_CLK_TCK")
 
 
 class Ran:
     """How a check ended and what it said, without its lines on functions that it has ended with; and their seconds.
 
-    What was done before the first of these lines is no function's.
+    What was done before the first of these lines is no function's: `spent` has the seconds of all.
     """
 
-    def __init__(self, returncode, lines, seconds):
-        self.returncode, self.stdout, self.seconds = returncode, "".join(lines), seconds
+    def __init__(self, returncode, lines, seconds, spent=0.0):
+        self.returncode, self.stdout, self.seconds, self.spent = returncode, "".join(lines), seconds, spent
 
 
 def checked(crate, texts, flags, kept):
@@ -31,14 +32,26 @@ def checked(crate, texts, flags, kept):
             if os.path.isdir(f"{crate.folder}/{part}"):
                 shutil.copytree(f"{crate.folder}/{part}", f"{room}/{part}")
         for path, text in texts.items():
-            with open(f"{room}/{path}", "w", encoding="utf-8") as it:
-                it.write(text)
+            _put(f"{room}/{path}", text)
         words = crate.words([*flags, "--progress"], keeps=False)
         words = [*kit.guarded(), kit.RATTLE, "check", *words, "--incremental", kept]
         with subprocess.Popen(words, cwd=room, stdin=subprocess.DEVNULL, stdout=subprocess.PIPE,
                               stderr=subprocess.STDOUT, text=True, errors="replace") as running:
             lines, seconds = _read(running)
-    return Ran(running.returncode, lines, seconds)
+            # Until it is waited for, the times of a process that has ended can be read.
+            spent = _spent(running.pid, ALL_TIMES)
+    return Ran(running.returncode, lines, seconds, spent)
+
+
+def _put(path, text):
+    """Writes a file, or takes it away where there is no text."""
+    if text is None:
+        if os.path.isfile(path):
+            os.remove(path)
+        return
+    os.makedirs(os.path.dirname(path), exist_ok=True)
+    with open(path, "w", encoding="utf-8") as it:
+        it.write(text)
 
 
 def _read(running):
@@ -55,7 +68,7 @@ def _read(running):
     return lines, seconds
 
 
-def _spent(pid):
+def _spent(pid, times=TIMES):
     """The seconds of a processor that a process has taken."""
     with open(f"/proc/{pid}/stat", encoding="ascii", errors="replace") as it:
-        return sum(map(int, it.read().rpartition(")")[2].split()[TIMES])) / TICKS
+        return sum(map(int, it.read().rpartition(")")[2].split()[times])) / TICKS

@@ -12,13 +12,14 @@ import edit as edits_of
 import kept
 import kit
 import libraries
+import spared
 import timed
 import twins
 from said import Said
 
 PRINTING = threading.Lock()
 # The tools that judge: verdicts are kept under a sum of them too.
-JUDGES = ("edit", "heads", "libraries", "said", "timed", "trial", "twins")
+JUDGES = ("edit", "heads", "libraries", "said", "spared", "timed", "trial", "twins")
 ANEW = "--anew"
 DEAREST = "--dearest"
 # How many of the dearest edits are told.
@@ -29,10 +30,13 @@ KEPT = re.compile(rf"(.+): {REFUSED}(\S.*) in ([\d.]+) s")
 
 
 class Verdict:
-    """What came of one edit, the goals of its own at which it was refused, and the seconds that its functions took."""
+    """What came of one edit, the goals of its own at which it was refused, and the seconds that its functions took.
 
-    def __init__(self, edit, text, goals=(), seconds=0.0):
-        self.edit, self.text, self.goals, self.seconds = edit, text, goals, seconds
+    Where it wasn't refused at one, `lines` are the first that the prover said of it.
+    """
+
+    def __init__(self, edit, text, goals=(), seconds=0.0, lines=()):
+        self.edit, self.text, self.goals, self.seconds, self.lines = edit, text, goals, seconds, lines
 
     @property
     def is_well(self):
@@ -51,30 +55,40 @@ class Trial:
 
     def __init__(self, crate, kept, jobs):
         self.crate, self.kept, self.jobs = crate, kept, jobs
-        # The goals that were refused so far.
-        self.seen = set()
+        # The goals that were refused so far; how many checks there were, and the seconds of a processor that they took.
+        self.seen, self.checks, self.spent = set(), 0, 0.0
 
     def check(self, edits, functions=()):
         """Checks the crate with these edits, or only these functions of it."""
-        texts = edits_of.applied(self.crate.folder, edits)
-        only = [word for it in functions for word in ("--only", it.ending())]
-        ran = timed.checked(self.crate, texts, ["--allow-holes", *only, "--jobs", str(self.jobs)], self.kept)
-        if ran.returncode < 0:
-            # It was killed, most likely for memory.
-            ran = timed.checked(self.crate, texts, ["--allow-holes", *only, "--jobs", "1"], self.kept)
+        return self._ran(edits_of.applied(self.crate.folder, edits), ["--allow-holes", *_only(functions)])
+
+    def check_spared(self, edits):
+        """Checks the functions that these edits change, and does nothing else for a crate with these edits."""
+        functions = edits_of.functions_in(edits)
+        beside = spared.Spared(self.crate.folder, functions)
+        return self._ran(edits_of.applied(self.crate.folder, [*edits, beside]), _only(functions), beside.proofs)
+
+    def _ran(self, texts, flags, proofs=()):
+        """What a check with these texts in place of the crate's said; no edit changes the proofs."""
+        for jobs in (str(self.jobs), "1"):
+            ran = timed.checked(self.crate, {**dict(proofs), **texts}, [*flags, "--jobs", jobs], self.kept)
+            self.checks, self.spent = self.checks + 1, self.spent + ran.spent
+            # Where it was killed, that was most likely for memory.
+            if ran.returncode >= 0:
+                break
         return Said(self.crate, ran, texts)
 
     def check_group(self, group, beside):
-        """Checks the crate with a group's edits and those beside it: what the group changes alone, if that will do.
+        """Checks the functions that a group's edits change, and does nothing else if that will do.
 
-        Edits inside of functions are judged by what is said of these. Where one is to be tried by itself, the whole
-        crate is checked.
+        Where nothing can be told of that, what they call is proved too, with the edits beside the group in it. Where the
+        edits lie outside of functions the whole crate is checked.
         """
-        if all(it.is_inside for it in group) and (len(group) > 1 or beside):
-            said = self.check([*group, *beside], edits_of.functions_in(group))
+        if all(it.is_inside for it in group):
+            said = self.check_spared(group)
             if not said.fault():
                 return said
-        return self.check([*group, *beside])
+        return self.check([*group, *beside], edits_of.functions_in(group))
 
     def judge_all(self, groups):
         """A verdict for each edit of all groups. What was refused stays beside the groups that follow."""
@@ -104,30 +118,43 @@ class Trial:
         take as long as a group does, and tells nothing.
         """
         said = self.check_group(group, beside)
-        fault = said.fault()
-        is_alone = len(group) == 1 and not beside
-        if not fault:
-            others = self.seen.union(goals_of(said, beside)) if beside else set()
-            self.seen = self.seen.union(said.all_goals())
-            return [self.verdict(said, it, is_alone, others) for it in group]
-        if is_alone:
-            return [Verdict(group[0], f"BAD EDIT: {fault}")]
-        if len(group) == 1:
-            return self.judge(group)
-        half = len(group) // 2
-        return self.judge(group[:half], beside) + self.judge(group[half:], beside)
+        if said.fault() and len(group) > 1:
+            half = len(group) // 2
+            return self.judge(group[:half], beside) + self.judge(group[half:], beside)
+        if said.fault():
+            return [self.judge_alone(group[0])]
+        others = self.seen.union(goals_of(said, beside)) if beside else set()
+        self.seen = self.seen.union(said.all_goals())
+        return [verdict(said, it, others) or self.judge_alone(it) for it in group]
 
-    def verdict(self, said, edit, is_alone, others=frozenset()):
-        """What the check says of one edit of its group: the goals of others refuse no edit outside of functions."""
-        own = refused_at(said, edit, others)
-        if own:
-            return refused(edit, own, said.seconds_of(edit.functions))
-        if not is_alone:
-            return self.judge([edit])[0]
-        elsewhere = said.all_goals()
-        if elsewhere:
-            return Verdict(edit, f"refused elsewhere only, at {elsewhere[0]}")
-        return Verdict(edit, "PROVED" if said.is_all_proved() else "refused elsewhere only, at no goal")
+    def judge_alone(self, edit):
+        """The verdict on an edit that a check with others didn't refuse: it is tried alone.
+
+        First its functions are checked, and what they call; then the whole crate, where these didn't refuse it.
+        """
+        if edit.functions:
+            said = self.check([edit], edit.functions)
+            if told := None if said.fault() else verdict(said, edit):
+                return told
+        said = self.check([edit])
+        fault, elsewhere = said.fault(), said.all_goals()
+        if fault:
+            return Verdict(edit, f"BAD EDIT: {fault}", lines=said.first_lines())
+        if said.is_all_proved():
+            return Verdict(edit, "PROVED")
+        where = elsewhere[0] if elsewhere else "no goal"
+        return verdict(said, edit) or Verdict(edit, f"refused elsewhere only, at {where}", lines=said.first_lines())
+
+
+def verdict(said, edit, others=frozenset()):
+    """The verdict on an edit that a check refuses, or None: others' goals refuse none outside of functions."""
+    own = refused_at(said, edit, others)
+    return refused(edit, own, said.seconds_of(edit.functions)) if own else None
+
+
+def _only(functions):
+    """The words by which only these functions are checked, with what they stand on."""
+    return [word for it in functions for word in ("--only", it.ending())]
 
 
 def refused_at(said, edit, others=frozenset()):
@@ -148,10 +175,10 @@ def goals_of(said, edits):
 
 
 class Count:
-    """How many edits of a crate there are, how many were refused at goals of their own, and whether that was kept."""
+    """How many edits of a crate there are, which weren't refused at goals of their own, and whether that was kept."""
 
-    def __init__(self, edits, well, is_kept=False):
-        self.edits, self.well, self.is_kept = edits, well, is_kept
+    def __init__(self, edits, failed=(), is_kept=False):
+        self.edits, self.failed, self.is_kept = edits, failed, is_kept
 
 
 def tried(crate, jobs):
@@ -163,12 +190,15 @@ def tried(crate, jobs):
         trial = Trial(laid, f"{folder}/kept", jobs)
         verdicts = sorted(trial.judge_all(edits_of.grouped(edits)), key=lambda it: it.edit.name)
     lines = [f"{crate.name}/{it}" for it in bad]
-    lines += [f"{crate.name}/{it.edit.name}: {it.text}" for it in verdicts]
+    for it in verdicts:
+        lines += [f"{crate.name}/{it.edit.name}: {it.text}", *(f"    {line}" for line in it.lines)]
+    lines.append(f"{crate.name}: {trial.checks} check{'s' * (trial.checks != 1)}, {trial.spent:.0f} s of a processor")
     with PRINTING:
         print("\n".join(lines), flush=True)
-    count = Count(len(lines), sum(it.is_well for it in verdicts))
+    failed = [it.partition(":")[0] for it in bad] + [it.edit.name for it in verdicts if not it.is_well]
+    count = Count(len(bad) + len(verdicts), [f"{crate.name}/{it}" for it in failed])
     # A crate that was changed while its edits were tried has another sum by now.
-    if count.edits == count.well and total == kept.of_verdicts(crate, JUDGES):
+    if not failed and total == kept.of_verdicts(crate, JUDGES):
         kept.keep_lines(crate.name, total, [*map(kept_line, verdicts), last_line(count.edits)])
     return count
 
@@ -190,7 +220,7 @@ def kept_of(crate):
 def recalled(crate):
     """The count of verdicts that are kept of the crate as it is, or None."""
     found = kept_of(crate)
-    return Count(len(found), len(found), is_kept=True) if found else None
+    return Count(len(found), is_kept=True) if found else None
 
 
 def tell_dearest(crates):
@@ -249,13 +279,21 @@ def main(top, words):
     counts.update((it, given[it.name, "wrong"]) for it in left)
     for it in (it for it in left if not counts[it]):
         print(f"{it.name}: a library below it is not proved, and no edit was tried")
+    if well := [it for it in left if counts[it] and not counts[it].failed]:
+        tell_dearest(well)
     return summed(list(counts.values()))
 
 
 def summed(counts):
-    """Prints what came of all, and gives the exit status: 0 only where there are edits and each was refused."""
+    """Prints what came of all, and gives the exit status: 0 only where there are edits and each was refused.
+
+    What failed is named once more at the end, where a reader of the last lines sees it.
+    """
     known = [it for it in counts if it]
-    edits, well = sum(it.edits for it in known), sum(it.well for it in known)
+    edits, failed = sum(it.edits for it in known), [name for it in known for name in it.failed]
     recalled = sum(it.edits for it in known if it.is_kept)
+    for it in failed:
+        print(f"not refused: {it}")
+    well = edits - len(failed)
     print(f"{edits} wrong bodies, {well} refused at goals of their own; {edits - recalled} tried, {recalled} kept")
-    return 0 if edits and edits == well and None not in counts else 1
+    return 0 if edits and not failed and None not in counts else 1

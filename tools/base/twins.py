@@ -66,9 +66,7 @@ def _may_have_a_twin(crate, edit):
 
 def _proofs(crate, function):
     """The folders of the function's proof, from the crate's."""
-    owner = [function.owner] if function.block else []
-    paths = ["/".join(["proofs", *module, *owner, function.name]) for module in function.modules]
-    return [it for it in paths if os.path.isdir(f"{crate.folder}/{it}")]
+    return [it for it in function.proofs() if os.path.isdir(f"{crate.folder}/{it}")]
 
 
 class _Twin:
