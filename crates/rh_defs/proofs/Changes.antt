@@ -2,6 +2,8 @@
 use Rattle.rh_defs.proofs.Common.{◌≡◌, ℕ, Bool, true, false, refl, sym, subst, List, Option, Some, None, Ok, Err, Refusal, Command, Granted, ◌>>=◌, ◌>>◌}
 use Rattle.rh_defs.proofs.Common.{refuse_if, Heap, Parcel, Desk, Task, named, Answer, IsDesk}
 use Rattle.rh_defs.specs.declared.command.Command.TheVariants as command
+use Rattle.rh_defs.specs.declared.raw_command.RawCommand.{RawCommand}
+use Rattle.rh_defs.specs.declared.raw_command.RawCommand.TheVariants as raw
 use Rattle.rh_defs.specs.declared.reply.Reply.{Reply}
 use Rattle.rh_defs.specs.Slot.{Slot}
 use Rattle.rh_defs.specs.Desk.{Made, with_task, with_slot, with_module}
@@ -16,6 +18,12 @@ use Rattle.rh_defs.proofs.OrderSteps.{SaidAlike}
 
 -- ---- commands on memory alone
 
+-- of those of a task with code of its own
+abbrev pub is_on_memory : RawCommand → Bool
+is_on_memory (raw.Write name x bytes) = true
+is_on_memory (raw.Scrap name k) = true
+is_on_memory c = false
+
 -- those that are something else: they send, take, start or end something, or make an area
 abbrev pub IsOnMemory : Command → Type 0
 IsOnMemory (command.Task name buffer manner) = ⊥
@@ -26,6 +34,7 @@ IsOnMemory (command.CancelIn name id) = ⊥
 IsOnMemory (command.CancelOut name id) = ⊥
 IsOnMemory (command.Repeat name) = ⊥
 IsOnMemory (command.Make most) = ⊥
+IsOnMemory (command.Raw c) = is_on_memory c ≡ true
 IsOnMemory c = Unit {0}
 
 -- the task whose slot a command may change

@@ -46,7 +46,7 @@ unfoldable pub use Rattle.rh_defs.specs.Transfer.{handled}
 pub use Rattle.rh_defs.specs.declared.command.Command.{Command}
 pub use Rattle.rh_defs.specs.declared.heap.HeapRefusal.{HeapRefusal}
 pub use Rattle.rh_defs.specs.declared.message.Body.{Body}
-pub use Rattle.rh_defs.specs.declared.message.Body.TheVariants.{DataLoad, DataLoadAck, DataSave, DataSaveAck, RamFetch, RamTransmit}
+pub use Rattle.rh_defs.specs.declared.message.Body.TheVariants.{DataLoad, DataLoadAck, DataSave, DataSaveAck, Other, RamFetch, RamTransmit}
 pub use Rattle.rh_defs.specs.declared.message.EventCode.{EventCode}
 pub use Rattle.rh_defs.specs.declared.message.EventCode.TheVariants.{Acknowledge, Recorded, User}
 pub use Rattle.rh_defs.specs.declared.message.Letter.{Letter}

@@ -10,11 +10,12 @@ use Rattle.rh_defs.specs.Post.{post_is_live}
 use Rattle.rh_defs.specs.Desk.{task_pages, used_pages, has_name, edit_task, with_task, with_slot, with_sending, with_taking, with_module, with_post}
 use Rattle.rh_defs.specs.Desk.{kept_scrap, send_letter}
 use Rattle.rh_defs.specs.Commands.{least_length}
+use Rattle.rh_defs.specs.RawCommands.{after_answer}
 use Rattle.rh_defs.specs.Laws.{IsPost, task_handles}
 use Rattle.rh_defs.proofs.Chains.{OnGrant, granted, granted-with, found_or-grants}
 use Rattle.rh_defs.proofs.Lists.{find-all, number-finds, rise-same, total-set}
 use Rattle.rh_defs.proofs.ModuleKeeps.{Fills}
-use Rattle.rh_defs.proofs.PostKeeps.{PostKept, post_send-grants}
+use Rattle.rh_defs.proofs.PostKeeps.{PostKept, PostSent, same-sent, post_send-grants}
 use Rattle.rh_defs.proofs.SlotKeeps.{IsRoomed, IsKept, kept-same}
 
 -- ---- tasks
@@ -159,6 +160,16 @@ unfolding with_delivered
 with_delivered-keeps p d kept is =
     posted-keeps p (kept_scrap p d.scrap) d (omega (arith, ap (λ n. n / page_size) kept.end)) (sym is.seats ∙ sym kept.handles) kept.post.is
     (kept_scrap-less p d.scrap) is
+
+-- a post in which a message was answered
+pub answered-keeps : (p : Post) (d : Desk) → PostSent 0 d.post p → IsDesk d → IsDesk (with_delivered p d)
+unfolding with_delivered
+answered-keeps p d sent is =
+    posted-keeps p (kept_scrap p d.scrap) d (omega (arith, sent.room)) (sym is.seats ∙ sym sent.handles) sent.post (kept_scrap-less p d.scrap) is
+
+-- after a letter a scrap file is kept, or given up
+pub after_answer-keeps : (d : Desk) → IsDesk d → IsDesk (after_answer d)
+after_answer-keeps d is = answered-keeps d.post d (same-sent 0 d.post is.post) is
 
 with_task-areas : (h : ℕ) (edit : Task → Task) (d : Desk) → (with_task h edit d).areas ≡ d.areas
 unfolding with_task

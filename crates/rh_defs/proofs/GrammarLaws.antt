@@ -4,8 +4,11 @@ use Rattle.rh_defs.specs.declared.command.Command.TheVariants as command
 use Rattle.rh_defs.specs.declared.command.Manner.TheVariants as manner
 use Rattle.rh_defs.specs.declared.question.Question.{Question}
 use Rattle.rh_defs.specs.declared.question.Question.TheVariants as question
-use Rattle.rh_defs.specs.Grammar.{Form, Value, Values, Maker, GrammarRow, Spelling, manner_of, manner_word, cancel_of, cancel_spelled, spelled_by}
-use Rattle.rh_defs.specs.Grammar.{question_spelling, rows, spelling}
+use Rattle.rh_defs.specs.Grammar.{Form, Value, Values, Maker, GrammarRow, Spelling, Third, First, Middle, Last, manner_of, manner_word, cancel_of}
+use Rattle.rh_defs.specs.Grammar.{cancel_spelled, spelled_by}
+use Rattle.rh_defs.specs.Grammar.{question_spelling, raw_spelling, rows, spelling}
+use Rattle.rh_defs.specs.declared.raw_command.RawCommand.{RawCommand}
+use Rattle.rh_defs.specs.declared.raw_command.RawCommand.TheVariants as raw
 
 -- the command made of values
 abbrev pub made : (forms : List Form) → Maker forms → Values forms → Command
@@ -31,10 +34,11 @@ AllSpell [] = Unit {0}
 AllSpell (row ∷ rows) = RowSpells row × AllSpell rows
 
 -- a task's manner, as a word and back
-manner-back : (deaf : Option Bool) → manner_word (manner_of deaf) ≡ deaf
+manner-back : (word : Option Third) → manner_word (manner_of word) ≡ word
 manner-back None = refl
-manner-back (Some true) = refl
-manner-back (Some false) = refl
+manner-back (Some First) = refl
+manner-back (Some Middle) = refl
+manner-back (Some Last) = refl
 
 cancel-spells : (name : List ℕ) (comes_in : Bool) (id : Option ℕ) → spelling (cancel_of name comes_in id) ≡ cancel_spelled (name, (comes_in, (id, tt)))
 cancel-spells name true id = refl
@@ -50,9 +54,15 @@ asked-made : (q : Question) → made_of (question_spelling q) ≡ command.Ask q
 asked-made (question.Show name k) = refl
 asked-made q = refl
 
+raw-made : (c : RawCommand) → made_of (raw_spelling c) ≡ command.Raw c
+raw-made (raw.Ack name) = refl
+raw-made c = refl
+
 pub spelling-made : (c : Command) → made_of (spelling c) ≡ c
 spelling-made (command.Task name buffer manner.Plain) = refl
 spelling-made (command.Task name buffer manner.Deaf) = refl
 spelling-made (command.Task name buffer manner.File) = refl
+spelling-made (command.Task name buffer manner.Raw) = refl
 spelling-made (command.Ask q) = asked-made q
+spelling-made (command.Raw c) = raw-made c
 spelling-made c = refl

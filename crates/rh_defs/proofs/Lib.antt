@@ -29,7 +29,9 @@ pub mod Follows
 pub mod Orders
 pub mod QuestionLaws
 pub mod OrderSteps
+pub mod HandedLaws
 pub mod Changes
+pub mod RawSteps
 pub mod Steps
 pub mod Spaced
 pub mod SlotImageLaws
@@ -37,6 +39,9 @@ pub mod MessageRows
 pub mod Rows
 pub mod MemoryRows
 pub mod TransferRows
+pub mod RawRows
+pub mod RawFileRows
+pub mod RawGuardRows
 pub mod Examples
 pub mod BlockLaws
 pub mod ShapeLaws
@@ -44,6 +49,8 @@ pub mod BlockCalls
 pub mod ResizeLaws
 pub mod MessageLaws
 pub mod MessageImageLaws
+pub mod AnyMessageLaws
+pub mod BlockKindLaws
 pub mod ParcelLaws
 pub mod PostLaws
 pub mod Common

@@ -2,14 +2,14 @@
 use Rattle.rh_defs.proofs.Common.{◌≡◌, ℕ, zero, suc, ◌+◌, ◌-◌, ◌*◌, ◌/◌, ◌%◌, ◌<◌, ◌≤◌, ◌≢◌, inl, inr, Bool, true, false, cond, eqb, ltb, leb, List, [], ◌∷◌}
 use Rattle.rh_defs.proofs.Common.{length, get_or, refl, sym, ap, subst, ◌∙◌, arith, cases_eq, nat_tests, length-append, length-replicate, Option, Some, None}
 use Rattle.rh_defs.proofs.Common.{Result, Ok, Err, ◌==◌, ◌&&◌, word, part, zeros, encoded, encoded_length, Fits, SpellWords, Body, DataSave, DataSaveAck}
-use Rattle.rh_defs.proofs.Common.{DataLoad, DataLoadAck, RamFetch, RamTransmit, Message}
+use Rattle.rh_defs.proofs.Common.{DataLoad, DataLoadAck, RamFetch, RamTransmit, Other, Message}
 use Rattle.std.proofs.lemmas.List.{get_or-append-add, get_or-replicate}
 use Rattle.std.proofs.lemmas.List.Quantifiers.{position-Some}
 use Rattle.std.proofs.lemmas.List.Sums.{position_or_len_is}
 use Rattle.std.specs.List.{position_or_len}
 use Rattle.rh_defs.specs.declared.sizes.TheConstants.{LONGEST_MESSAGE}
 use Rattle.rh_defs.specs.Pathnames.{is_plain}
-use Rattle.rh_defs.specs.Messages.{action_at, action_number, action_of, file_words, data_words, name_bytes, tail_bytes, HasName}
+use Rattle.rh_defs.specs.Messages.{action_at, action_number, action_of, file_words, data_words, name_bytes, tail_bytes, body_bytes, is_kind, HasName}
 use Rattle.rh_defs.specs.MessageImage.{SpellsName, SpellsTail, SpellsMessage, name_length, file_named, file_in, about_file, body_for, body_in, message_in}
 use Rattle.rh_defs.specs.MessageImage.{has_length, decoded}
 use Rattle.rh_defs.specs.declared.message.Action.{Action}
@@ -28,12 +28,12 @@ ltb_no m n h = grind (arith, nat_tests)
 pub ltb_yes : (m n : ℕ) → m < n → ltb m n ≡ true
 ltb_yes m n h = grind (arith, nat_tests)
 
-both_true : (x y : Bool) → (x && y) ≡ true → (x ≡ true) × (y ≡ true)
+pub both_true : (x y : Bool) → (x && y) ≡ true → (x ≡ true) × (y ≡ true)
 both_true true true e = (refl, refl)
 both_true true false e = absurd cc
 both_true false y e = absurd cc
 
-both_are : (x y : Bool) → x ≡ true → y ≡ true → (x && y) ≡ true
+pub both_are : (x y : Bool) → x ≡ true → y ≡ true → (x && y) ≡ true
 both_are true true ex ey = refl
 both_are true false ex ey = absurd cc
 both_are false y ex ey = absurd cc
@@ -48,7 +48,7 @@ all_plain b at (suc n) f =
     both_are (ltb 0 (get_or b at 0)) (is_plain (part b (at + 1) n)) t (all_plain b (at + 1) n
     (λ k l z. f (k + 1) (omega arith) (ap (λ i. get_or b i 0) (omega arith) ∙ z)))
 
-plain_at : (name : List ℕ) (i : ℕ) → is_plain name ≡ true → i < length name → eqb (get_or name i 0) 0 ≡ false
+pub plain_at : (name : List ℕ) (i : ℕ) → is_plain name ≡ true → i < length name → eqb (get_or name i 0) 0 ≡ false
 plain_at [] i t l = absurd (omega arith)
 plain_at (x ∷ name) zero t l = let w = (both_true (ltb 0 x) (is_plain name) t).0 in grind (arith, nat_tests)
 plain_at (x ∷ name) (suc i) t l = plain_at name i (both_true (ltb 0 x) (is_plain name) t).1 (omega arith)
@@ -174,6 +174,7 @@ body-spelled b end body e = go (action_at (word b 16)) refl e
 
     go : (o : Option Action) → action_at (word b 16) ≡ o → body_for b end o ≡ Ok body → BodySpelled b end body
     go None eo z = absurd cc
+    go (Some (action.Other n)) eo z = absurd cc
     go (Some action.DataSave) eo z =
         filed DataSave (file_in b end) refl z (λ f s. record { action = action-at (word b 16) action.DataSave eo; numbers = s.0; rest = s.1 })
     go (Some action.DataSaveAck) eo z =
@@ -187,7 +188,7 @@ body-spelled b end body e = go (action_at (word b 16)) refl e
     go (Some action.RamTransmit) eo z = rammed RamTransmit (ltb end 28) refl z
         (λ l. record { action = action-at (word b 16) action.RamTransmit eo; numbers = (refl, (refl, tt)); rest = l })
 
-spelled-body : (b : List ℕ) (end : ℕ) (body : Body) → BodySpelled b end body → body_in b end ≡ Ok body
+pub spelled-body : (b : List ℕ) (end : ℕ) (body : Body) → BodySpelled b end body → body_in b end ≡ Ok body
 spelled-body b end (DataSave f) s = ap (λ n. body_for b end (action_at n)) s.action ∙ ap (about_file DataSave) (spelled-file b end f (s.numbers, s.rest))
 spelled-body b end (DataSaveAck f) s = ap (λ n. body_for b end (action_at n)) s.action ∙ ap (about_file DataSaveAck) (spelled-file b end f (s.numbers, s.rest))
 spelled-body b end (DataLoad f) s = ap (λ n. body_for b end (action_at n)) s.action ∙ ap (about_file DataLoad) (spelled-file b end f (s.numbers, s.rest))
@@ -204,6 +205,7 @@ spelled-body b end (RamTransmit x y) s =
   where
     made : ℕ → ℕ → Result Body MessageFault
     made i j = Ok (RamTransmit i j)
+spelled-body b end (Other o) s = absurd s.rest
 
 -- ---- messages
 pub decoded-spells : (b : List ℕ) (m : Message) → decoded b ≡ Ok m → SpellsMessage b m
@@ -239,6 +241,15 @@ decoded-spells b m e = go (has_length b) refl e
     go false et z = absurd cc
     go true et z = with_body (body_in b (word b 0)) et refl z
 
+-- a length word of a message, whose bytes are there
+pub length-holds : (b : List ℕ) → 20 ≤ word b 0 → word b 0 ≤ LONGEST_MESSAGE → word b 0 % 4 ≡ 0 → word b 0 ≤ length b → has_length b ≡ true
+length-holds b least most multiple within =
+    both_are (leb 20 (length b) && leb 20 (word b 0) && leb (word b 0) LONGEST_MESSAGE && eqb (word b 0 % 4) 0) (leb (word b 0) (length b))
+    (both_are (leb 20 (length b) && leb 20 (word b 0) && leb (word b 0) LONGEST_MESSAGE) (eqb (word b 0 % 4) 0)
+    (both_are (leb 20 (length b) && leb 20 (word b 0)) (leb (word b 0) LONGEST_MESSAGE)
+    (both_are (leb 20 (length b)) (leb 20 (word b 0)) (leb_yes 20 (length b) (omega arith)) (leb_yes 20 (word b 0) least))
+    (leb_yes (word b 0) LONGEST_MESSAGE most)) (eqb_same (word b 0 % 4) 0 multiple)) (leb_yes (word b 0) (length b) within)
+
 pub spelled-decodes : (b : List ℕ) (m : Message) → SpellsMessage b m → decoded b ≡ Ok m
 unfolding decoded
 spelled-decodes b m s = go s.words
@@ -248,14 +259,7 @@ spelled-decodes b m s = go s.words
 
     go : SpellWords b 4 (m.from ∷ m.my_ref ∷ m.your_ref ∷ action_number (action_of m.body) ∷ data_words m.body) → decoded b ≡ Ok m
     go (from, (mine, (yours, (kind, numbers)))) =
-        let least = s.least in
-        let within = s.within in
-        let t : has_length b ≡ true =
-        both_are (leb 20 (length b) && leb 20 (word b 0) && leb (word b 0) LONGEST_MESSAGE && eqb (word b 0 % 4) 0) (leb (word b 0) (length b))
-        (both_are (leb 20 (length b) && leb 20 (word b 0) && leb (word b 0) LONGEST_MESSAGE) (eqb (word b 0 % 4) 0)
-        (both_are (leb 20 (length b) && leb 20 (word b 0)) (leb (word b 0) LONGEST_MESSAGE)
-        (both_are (leb 20 (length b)) (leb 20 (word b 0)) (leb_yes 20 (length b) (omega arith)) (leb_yes 20 (word b 0) least))
-        (leb_yes (word b 0) LONGEST_MESSAGE s.most)) (eqb_same (word b 0 % 4) 0 s.multiple)) (leb_yes (word b 0) (length b) within) in
+        let t = length-holds b s.least s.most s.multiple s.within in
         let body : BodySpelled b (word b 0) m.body = record { action = kind; numbers = numbers; rest = s.tail } in
         cond_true (has_length b) _ _ t
         ∙ ap (message_in b) (spelled-body b (word b 0) m.body body)
@@ -281,8 +285,8 @@ tail-named m name e p t =
           ∙ get_or-append-add name (zeros pad) 0 0 ∙ get_or-replicate pad 0 0 0 (omega arith),
     )
 
-pub encoded-spells : (m : Message) → Fits m → SpellsMessage (encoded m) m
-encoded-spells m f =
+pub encoded-spells : (m : Message) → Fits m → is_kind m.body ≡ true → SpellsMessage (encoded m) m
+encoded-spells m f kind =
     let w = encoded-words m f in
     let k = encoded-most m f.name in
     let low = k.0 in
@@ -310,9 +314,10 @@ encoded-spells m f =
     tail (DataSaveAck g) e h = about g (ap (λ x. length (data_words x)) e) (ap tail_bytes e) (name_plain g.name (subst HasName e h))
     tail (DataLoad g) e h = about g (ap (λ x. length (data_words x)) e) (ap tail_bytes e) (name_plain g.name (subst HasName e h))
     tail (DataLoadAck g) e h = about g (ap (λ x. length (data_words x)) e) (ap tail_bytes e) (name_plain g.name (subst HasName e h))
-    tail (RamFetch x y) e h = let l = (encoded-most m h).0 in l
-    tail (RamTransmit x y) e h = let l = (encoded-most m h).0 in l
+    tail (RamFetch x y) e h = let l = length-body (RamFetch x y) in let q = ap (λ b. length (body_bytes b)) e in omega (arith, l, q)
+    tail (RamTransmit x y) e h = let l = length-body (RamTransmit x y) in let q = ap (λ b. length (body_bytes b)) e in omega (arith, l, q)
+    tail (Other o) e h = absurd (let bad : true ≡ false = sym kind ∙ ap is_kind e in cc)
 
 -- what was encoded is decoded
-pub decoded-encoded : (m : Message) → Fits m → decoded (encoded m) ≡ Ok m
-decoded-encoded m f = spelled-decodes (encoded m) m (encoded-spells m f)
+pub decoded-encoded : (m : Message) → Fits m → is_kind m.body ≡ true → decoded (encoded m) ≡ Ok m
+decoded-encoded m f kind = spelled-decodes (encoded m) m (encoded-spells m f kind)

@@ -1,7 +1,9 @@
 -- Laws of the bytes of messages.
 use Rattle.rh_defs.proofs.Common.{◌≡◌, ℕ, ◌+◌, ◌-◌, ◌*◌, ◌/◌, ◌%◌, ◌<◌, ◌≤◌, ◌^◌, Bool, true, false, leb, lit<, List, [], ◌∷◌, ◌++◌, length, refl, sym, ap}
 use Rattle.rh_defs.proofs.Common.{subst, ◌∙◌, arith, nat_tests, length-append, length-replicate, append_assoc, ◌&&◌, word, part, with_part, zeros, encoded}
-use Rattle.rh_defs.proofs.Common.{encoded_length, Fits, SpellWords, Body, DataSave, DataSaveAck, DataLoad, DataLoadAck, RamFetch, RamTransmit, Message}
+use Rattle.rh_defs.proofs.Common.{encoded_length, Fits, SpellWords, Body, DataSave, DataSaveAck, DataLoad, DataLoadAck, RamFetch, RamTransmit, Other, Message}
+use Rattle.rh_defs.proofs.Common.{eqb, not, eqb-true}
+use Rattle.rh_defs.specs.OtherBodies.{is_whole, is_exact, is_other}
 use Rattle.std.proofs.lemmas.Nat.{from_le_bytes-to_le_bytes_4}
 use Rattle.rh_defs.specs.declared.sizes.TheConstants.{LONGEST_MESSAGE}
 use Rattle.rh_defs.specs.Bytes.{word_bytes}
@@ -88,8 +90,20 @@ length-body b =
     let w = length-words (action_number (action_of b) ∷ data_words b) in
     omega (arith, length-append (words (action_number (action_of b) ∷ data_words b)) (tail_bytes b))
 
+-- whole words fit into a message block
+pub whole-fits : (bytes : List ℕ) → is_whole bytes ≡ true → (length bytes % 4 ≡ 0) × (length bytes ≤ 236)
+whole-fits bytes t =
+    let w = both_true (eqb (length bytes % 4) 0) (leb (length bytes) 236) t in
+    (eqb-true (length bytes % 4) 0 w.0, at_most (length bytes) w.1)
+  where
+    at_most : (n : ℕ) → leb n 236 ≡ true → n ≤ 236
+    at_most n u = grind (arith, nat_tests)
+
+pub other-whole : (a : ℕ) (bytes : List ℕ) → is_other a bytes ≡ true → is_whole bytes ≡ true
+other-whole a bytes t = (both_true (is_whole bytes) (not (is_exact a bytes)) t).0
+
 -- a body has at most 240 bytes, and whole words
-pub body-most : (b : Body) → HasName b → (12 ≤ length (body_bytes b)) × (length (body_bytes b) ≤ 240) × (length (body_bytes b) % 4 ≡ 0)
+pub body-most : (b : Body) → HasName b → (4 ≤ length (body_bytes b)) × (length (body_bytes b) ≤ 240) × (length (body_bytes b) % 4 ≡ 0)
 body-most (DataSave f) h =
     let l = length-body (DataSave f) in let n = length-name_bytes f.name in let s = name_short f.name h in (omega arith, omega arith, omega arith)
 body-most (DataSaveAck f) h =
@@ -100,6 +114,9 @@ body-most (DataLoadAck f) h =
     let l = length-body (DataLoadAck f) in let n = length-name_bytes f.name in let s = name_short f.name h in (omega arith, omega arith, omega arith)
 body-most (RamFetch buffer n) h = let l = length-body (RamFetch buffer n) in (omega arith, omega arith, omega arith)
 body-most (RamTransmit buffer n) h = let l = length-body (RamTransmit buffer n) in (omega arith, omega arith, omega arith)
+body-most (Other o) h =
+    let l = length-body (Other o) in let w = whole-fits o.1 (other-whole o.0 o.1 h.1) in let r = w.0 in let m = w.1 in
+    (omega (arith, l), omega (arith, l, m), omega (arith, l, r))
 
 -- ---- the whole block
 -- all words of a message block
@@ -119,21 +136,22 @@ length-encoded m =
     let head : List ℕ = encoded_length m ∷ m.from ∷ m.my_ref ∷ m.your_ref ∷ [] in
     omega (arith, length-append (words head) (body_bytes m.body), length-words head)
 
-pub encoded-most : (m : Message) → HasName m.body → (28 ≤ encoded_length m) × (encoded_length m ≤ LONGEST_MESSAGE) × (encoded_length m % 4 ≡ 0)
+pub encoded-most : (m : Message) → HasName m.body → (20 ≤ encoded_length m) × (encoded_length m ≤ LONGEST_MESSAGE) × (encoded_length m % 4 ≡ 0)
 encoded-most m h = let b = body-most m.body h in (omega arith, omega arith, omega arith)
 
-action-small : (b : Body) → action_number (action_of b) < 2 ^ 32
-action-small (DataSave f) = lit< tt
-action-small (DataSaveAck f) = lit< tt
-action-small (DataLoad f) = lit< tt
-action-small (DataLoadAck f) = lit< tt
-action-small (RamFetch buffer n) = lit< tt
-action-small (RamTransmit buffer n) = lit< tt
+action-small : (b : Body) → HasName b → action_number (action_of b) < 2 ^ 32
+action-small (DataSave f) h = lit< tt
+action-small (DataSaveAck f) h = lit< tt
+action-small (DataLoad f) h = lit< tt
+action-small (DataLoadAck f) h = lit< tt
+action-small (RamFetch buffer n) h = lit< tt
+action-small (RamTransmit buffer n) h = lit< tt
+action-small (Other o) h = h.0
 
 pub message-are_words : (m : Message) → Fits m → AreWords (message_words m)
 message-are_words m f =
     let k = (encoded-most m f.name).1 in
-    (omega arith, (f.from, (f.my_ref, (f.your_ref, (action-small m.body, f.numbers)))))
+    (omega arith, (f.from, (f.my_ref, (f.your_ref, (action-small m.body f.name, f.numbers)))))
 
 pub encoded-words : (m : Message) → Fits m → SpellWords (encoded m) 0 (message_words m)
 encoded-words m f =

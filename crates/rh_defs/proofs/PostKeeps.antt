@@ -415,7 +415,7 @@ queued_in-sent free l there post is can fills =
     }
 
 -- the message that is answered is put down
-put_down-sent : (free h : ℕ) (old post : Post) → PostSent free old post → PostSent free old (put_down h post)
+pub put_down-sent : (free h : ℕ) (old post : Post) → PostSent free old post → PostSent free old (put_down h post)
 put_down-sent free h old post sent =
     let fewer = with_held-count h None post.seats in
     let heap = release_held-kept (held_by h post.seats) post.heap sent.post.heap in
@@ -442,6 +442,10 @@ posted-sent free l there post is can fills =
     elim (answers_held l.your_ref (held_by l.from post.seats)) as (λ b. PostSent free post
     (cond b (put_down l.from (queued_in l there post)) (queued_in l there post)))
     [ true ↦ put_down-sent free l.from post (queued_in l there post) one | false ↦ one ]
+
+-- nothing was sent
+pub same-sent : (free : ℕ) (post : Post) → IsPost post → PostSent free post post
+same-sent free post is = record { room = omega arith; handles = refl; post = is }
 
 pub post_send-grants : (free : ℕ) (l : Letter) (post : Post) → IsPost post → OnGrant (λ (sent : Post × ℕ). PostSent free post sent.0) (post_send free l post)
 unfolding post_send

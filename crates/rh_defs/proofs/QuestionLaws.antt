@@ -9,14 +9,14 @@ use Rattle.rh_defs.specs.declared.question.Numbers.{Numbers}
 use Rattle.rh_defs.specs.declared.reply.Reply.{Reply}
 use Rattle.rh_defs.specs.declared.reply.Reply.TheVariants as reply
 use Rattle.rh_defs.specs.Range.{can_be_asked}
-use Rattle.rh_defs.specs.Questions.{Nothing, Told, begins, is_same, show, blocks, heap, status}
+use Rattle.rh_defs.specs.Questions.{Nothing, Told, begins, is_same, show, read, blocks, heap, status}
 use Rattle.rh_defs.specs.Commands.{is_refused}
 use Rattle.rh_defs.specs.Order.{with_queue, IsReordered}
 use Rattle.rh_defs.specs.Text.{answer_text, first_line, reply_text}
 
 -- no answer has the queue in it
 pub asked-requeued : (queue : List Parcel) (d : Desk) (q : Question) → asked (with_queue queue d) q ≡ asked d q
-unfolding show blocks heap status named
+unfolding show read blocks heap status named
 asked-requeued queue d (question.Show name k) = refl
 asked-requeued queue d q = refl
 

@@ -10,7 +10,7 @@ use Rattle.rh_defs.specs.Pieces.{written, is_inside}
 use Rattle.rh_defs.specs.Heap.{block_around, is_around}
 use Rattle.rh_defs.specs.Slot.{flex_address, block_of, flex_around, heap_block_at, with_block_bytes, length_with, lacks_room, opened_at, taken_out, slot_begin}
 use Rattle.rh_defs.specs.Slot.{slot_alloc, slot_block, slot_free, slot_extend, slot_mid, slot_put, slot_claim, slot_release, slot_resize}
-use Rattle.rh_defs.specs.Places.{with_heap_bytes, roomy_in, buffer_at, written_heap, written_around, written_in}
+use Rattle.rh_defs.specs.Places.{with_heap_bytes, roomy_in, buffer_at, written_heap, written_around, written_in, written_held}
 use Rattle.rh_defs.specs.IncomingEvents.{without_buffer}
 use Rattle.rh_defs.proofs.Chains.{OnGrant, granted, refused, granted-with, granted-unless, found_or-grants}
 use Rattle.rh_defs.proofs.Cuts.{IsCut, first_at-cuts, cut-total, total-append}
@@ -258,6 +258,16 @@ written_in-kept x n bytes s few is = go (buffer_at x n s) (buffer_at-is x n s)
     go None w =
         written_around-kept x bytes s (flex_around x (length bytes) s) is
         (first_at-cuts weight (λ place b. is_inside x (length bytes) (place + 8) (length b.bytes)) (flex_start s) s.blocks)
+
+-- bytes written at an address, into the block that holds them
+pub written_held-kept : (x : ℕ) (bytes : List ℕ) (s : Slot) → IsSlot s → IsKept s (written_held x bytes s)
+written_held-kept x bytes s is =
+    written_around-kept x bytes s (flex_around x (length bytes) s) is
+    (first_at-cuts weight (λ place b. is_inside x (length bytes) (place + 8) (length b.bytes)) (flex_start s) s.blocks)
+
+-- a slot that takes no more pages has room
+pub kept-roomed : (free : ℕ) (old new : Slot) → IsKept old new → IsRoomed free old new
+kept-roomed free old new kept = record { room = omega (arith, kept.pages); slot = kept.slot }
 
 -- the buffer goes
 pub without_buffer-kept : (address : ℕ) (s : Slot) → IsSlot s → IsKept s (without_buffer address s)

@@ -1,11 +1,11 @@
 -- Each command, step by step; and what follows of every run.
 use Rattle.rh_defs.proofs.Common.{◌≡◌, ◌≢◌, ℕ, ◌+◌, ◌*◌, ◌/◌, ◌≤◌, ◌<◌, ◌^◌, Bool, true, false, cond, refl, ap, sym, subst, ◌∙◌, arith, List, [], ◌∷◌, ◌++◌}
-use Rattle.rh_defs.proofs.Common.{length, length-append, map, Option, Some, None, ℤ, pos, negsuc, ◌&&◌, ◌==◌, nat_lt, not, find, filter, slice_index}
+use Rattle.rh_defs.proofs.Common.{length, length-append, map, Option, Some, None, Ok, ℤ, pos, negsuc, ◌&&◌, ◌==◌, nat_lt, not, find, filter, slice_index}
 use Rattle.rh_defs.proofs.Common.{AllByRecursion, ltb-false, eqb-true, eqb-false, anchor_count, Command, Granted, page_size, total, changed_length, Parcel}
 use Rattle.rh_defs.proofs.Common.{Post}
 use Rattle.rh_defs.proofs.Common.{post_poll, post_death, post_join, Desk, Task, free_pages, named, with_delivered, nat_tests, Answer, scrap_area}
 use Rattle.rh_defs.proofs.Common.{file_length, asked, step}
-use Rattle.rh_defs.proofs.Common.{handled, start_with, IsDesk}
+use Rattle.rh_defs.proofs.Common.{start_with, IsDesk}
 use Rattle.std.proofs.lemmas.List.{map-append, length-map}
 use Rattle.std.specs.List.{list_all}
 use borrow.Author.Tests.{ltb-true, leb-false}
@@ -13,10 +13,11 @@ use Rattle.rh_defs.specs.declared.command.Command.TheVariants as command
 use Rattle.rh_defs.specs.Forms.{first_made}
 use Rattle.rh_defs.specs.Range.{in_range, all_in_range}
 use Rattle.rh_defs.specs.Files.{FileList}
-use Rattle.rh_defs.specs.Desk.{Made, most_tasks, task_pages, used_pages, with_task, module_area}
+use Rattle.rh_defs.specs.Desk.{Made, most_tasks, task_pages, used_pages, with_task, with_taking, module_area}
 use Rattle.rh_defs.specs.Commands.{start_task, kill, alloc, load, put, free, extend, mid, claim, release, resize, budge, least_length}
 use Rattle.rh_defs.specs.Commands.{shrinks_below, pages_after, change_module, change_pages, is_numbered, with_pages, change_made, change_area, make, remove}
 use Rattle.rh_defs.specs.Commands.{own_block, rma_claim, rma_free, rma_resize, save, repeat, poll, poll_taken, cancel_in, cancel_out, change, is_refused}
+use Rattle.rh_defs.specs.Commands.{after_letter, with_released}
 use Rattle.rh_defs.specs.Runs.{after}
 use Rattle.rh_defs.specs.Laws.{Rise, IsStart, AreMade, task_handles, seat_handles}
 use Rattle.rh_defs.proofs.Chains.{OnGrant, granted, refused, granted-then, granted-with, granted-past, chosen, found_or-grants, or_else-keeps}
@@ -25,15 +26,26 @@ use Rattle.rh_defs.proofs.Lists.{append-all, filter-all, filter-total, filter-le
 use Rattle.rh_defs.proofs.ModuleKeeps.{module_claim-grants, module_free-grants, module_resize-grants, module_change-grants, changed-whole}
 use Rattle.rh_defs.proofs.PostKeeps.{post_poll-kept, post_death-kept, post_join-is, post_join-handles, post_join-end}
 use Rattle.rh_defs.proofs.SlotKeeps.{slot_begin-grants, slot_alloc-grants, slot_free-grants, slot_extend-grants, slot_mid-grants, slot_put-grants}
-use Rattle.rh_defs.proofs.SlotKeeps.{slot_claim-grants, slot_release-grants, slot_resize-grants}
+use Rattle.rh_defs.proofs.SlotKeeps.{slot_claim-grants, slot_release-grants, slot_resize-grants, without_buffer-kept}
 use Rattle.rh_defs.proofs.Desks.{IsTask, HasSlot, named-task, with_slot-keeps, with_sending-keeps, with_taking-keeps, roomed-after, kept_scrap-less}
-use Rattle.rh_defs.proofs.Desks.{with_delivered-keeps, send_letter-keeps, with_module-keeps, areas-keep}
-use Rattle.rh_defs.proofs.Transfers.{IsAfter, handled-keeps}
+use Rattle.rh_defs.proofs.Desks.{with_delivered-keeps, send_letter-keeps, with_module-keeps, areas-keep, with_task-keeps, after_answer-keeps}
+use Rattle.rh_defs.proofs.Transfers.{IsAfter, received-keeps}
+use Rattle.rh_defs.specs.declared.command.Manner.{Manner}
+use Rattle.rh_defs.specs.declared.transfer.Taking.{Taking}
+use Rattle.rh_defs.specs.declared.transfer.Incoming.{Incoming}
+use Rattle.rh_defs.specs.declared.reply.Reply.TheVariants as reply
+use Rattle.rh_defs.specs.AnyMessage.{as_read}
+use Rattle.rh_defs.specs.RawTasks.{is_raw}
+use Rattle.rh_defs.specs.Transfer.{received}
+use Rattle.rh_defs.specs.IncomingEvents.{without_buffer}
 use Rattle.rh_defs.specs.Order.{SameForEach, with_queue, IsReordered, StepsAlike, IgnoresOrder}
 use Rattle.rh_defs.proofs.Follows.{Follows, follows-same, follows-then, follows-less, or_else-follows, chosen-both}
 use Rattle.rh_defs.proofs.Orders.{post_poll-alike, post_death-alike}
 use Rattle.rh_defs.proofs.QuestionLaws.{asked-requeued}
 use Rattle.rh_defs.proofs.OrderSteps.{Alike, SaidAlike, follows-desk, send_letter-alike, with_delivered-alike, polled-alike, killed-alike, own_block-same}
+use Rattle.rh_defs.proofs.OrderSteps.{said-alike}
+use Rattle.rh_defs.proofs.OrderSteps.{after_letter-alike}
+use Rattle.rh_defs.proofs.RawSteps.{raw-does}
 use Rattle.rh_defs.proofs.Changes.{IsOnMemory, Changed, in_areas, in_made, in_module, in_nothing, IsAnswer, answer-is, Does, anything, known-step, step-then}
 use Rattle.rh_defs.proofs.Changes.{equal-step, past, otherwise, done, in-slot, in-module}
 
@@ -157,7 +169,11 @@ poll_taken-keeps : (d : Desk) (t : Task) (o : Option Parcel) → IsTask d t → 
 unfolding poll_taken
 poll_taken-keeps d t None task is = answer-is is
 poll_taken-keeps d t (Some m) task is =
-    let after : IsAfter (handled d t m m.code) = handled-keeps d t m m.code task is in answer-is after.desk
+    let after : IsAfter (received d t (as_read m)) = received-keeps d t (as_read m) task is in answer-is after.desk
+
+-- after a letter, whatever the manner
+after_letter-keeps : (manner : Manner) (d : Desk) → IsDesk d → IsDesk (after_letter manner d)
+after_letter-keeps manner d is = chosen IsDesk (is_raw manner) _ _ (after_answer-keeps d is) is
 
 module _ (d : Desk) where
   -- ---- tasks
@@ -279,6 +295,19 @@ unfolding in_range
 load-below name k file h = grind (arith, nat_tests)
 
 module _ (d : Desk) (queue : List Parcel) (same : SameForEach d.post.queued queue) where
+  -- the end of a cancel, by whether a buffer goes
+  let-go : (h : ℕ) (edit : List Incoming → List Incoming) (name : List ℕ) (id : Option ℕ) (o : Option Taking)
+      → Does (command.CancelIn name id) d (Ok (with_taking h edit (with_released h o d), reply.Done))
+      (Ok (with_taking h edit (with_released h o (with_queue queue d)), reply.Done))
+  unfolding with_task
+  let-go h edit name id None = otherwise _ queue same refl (λ run. with_taking-keeps h edit d run.desk) (λ on. on)
+  let-go h edit name id (Some f) =
+      otherwise _ queue same refl
+      (λ run. with_taking-keeps h edit _
+      (with_task-keeps h (λ t. record t { slot = without_buffer f.buffer t.slot }) d (λ t. refl)
+      (λ t slot. without_buffer-kept f.buffer t.slot slot) run.desk))
+      (λ on. on)
+
   -- what is shown of each command
   does : (c : Command) → Does c d (change d c) (change (with_queue queue d) c)
   unfolding start_task post_join kill named with_delivered alloc with_task load put free extend mid claim release resize budge save poll cancel_in
@@ -338,8 +367,10 @@ module _ (d : Desk) (queue : List Parcel) (same : SameForEach d.post.queued queu
   does (command.Save name k to leaf) =
       step-then _ _ _ λ t e. step-then _ _ _ λ b idle. past _ _ _ _ λ few. step-then _ _ _ λ r live.
       record {
-        alike = follows-desk _ _ (send_letter-alike _ d queue same) λ sent q s. Follows.both (SaidAlike.said _ q _ s refl);
-        keeps = λ run. granted-with _ (send_letter-keeps _ d run.desk) λ sent ok. granted (answer-is (with_sending-keeps t.handle _ sent ok.desk));
+        alike = follows-desk _ _ (send_letter-alike _ d queue same) λ sent q s. follows-then _ _ _ (Follows.both (SaidAlike.said _ q _ s refl));
+        keeps = λ run.
+            granted-with _ (send_letter-keeps _ d run.desk) λ sent ok. granted-past _ _ _ λ kind.
+            granted (answer-is (with_sending-keeps t.handle _ sent ok.desk));
         changes = λ on. absurd on;
       }
   does (command.Poll name) = record {
@@ -348,16 +379,16 @@ module _ (d : Desk) (queue : List Parcel) (same : SameForEach d.post.queued queu
     changes = λ on. absurd on;
   }
   does (command.CancelIn name id) =
-      step-then _ _ _ λ t e. step-then _ _ _ λ records meant.
-      otherwise _ queue same refl (λ run. with_taking-keeps t.handle _ d run.desk) (λ on. on)
+      step-then _ _ _ λ t e. step-then _ _ _ λ records meant. let-go t.handle (λ _. records) name id _
   does (command.CancelOut name id) =
       step-then _ _ _ λ t e. step-then _ _ _ λ records meant.
       otherwise _ queue same refl (λ run. with_sending-keeps t.handle _ d run.desk) (λ on. on)
   does (command.Repeat name) =
       step-then _ _ _ λ t e. step-then _ _ _ λ last there.
       record {
-        alike = follows-desk _ _ (send_letter-alike _ d queue same) λ sent q s. Follows.both (SaidAlike.said _ q _ s refl);
-        keeps = λ run. granted-with _ (send_letter-keeps _ d run.desk) λ sent ok. granted (answer-is ok.desk);
+        alike = follows-desk _ _ (send_letter-alike _ d queue same) λ sent q s.
+            Follows.both (said-alike _ refl (after_letter-alike t.manner sent q s));
+        keeps = λ run. granted-with _ (send_letter-keeps _ d run.desk) λ sent ok. granted (answer-is (after_letter-keeps t.manner sent ok.desk));
         changes = λ on. absurd on;
       }
   does (command.Area k delta) =
@@ -394,6 +425,7 @@ module _ (d : Desk) (queue : List Parcel) (same : SameForEach d.post.queued queu
       equal-step _ _ _ _ (own_block-same address d queue same) (λ run. anything (own_block address d)) λ b own known.
       known-step _ _ _ (λ run. module_resize-grants (free_pages d) _ delta d.post.heap run.desk.post.heap) λ c e fills.
       in-module d queue same c.0 refl (λ run. with_module-keeps c.0 d (fills run) run.desk)
+  does (command.Raw c) = raw-does d queue same c
   does (command.Ask q) =
       equal-step _ _ _ _ (asked-requeued queue d q) (λ run. anything (asked d q)) λ told e known.
       done d queue same d same refl (λ run. run.desk) (in_nothing refl)

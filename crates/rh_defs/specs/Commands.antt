@@ -6,7 +6,7 @@
 use Rattle.std.specs.Prelude.{ℕ, ◌+◌, ◌-◌, ◌*◌, ◌/◌, ◌^◌, ℤ, pos, negsuc, Bool, false, not, nat_lt, nat_le, ◌==◌, if◌then◌else◌, List, [], ◌∷◌, ◌++◌, length, filter, find, map, slice_index, slice_set, Option, Some, None, Ok, true}
 use Rattle.std.specs.List.{list_any}
 use Rattle.std.specs.Str.{bytes_eq}
-use Rattle.rh_defs.specs.declared.refusal.Refusal.TheVariants.{NameInUse, TooManyTasks, NoHandles, NoFile, NotABlock, NotYours, ExcessiveShrink, NoRoom, NoArea, TooManyAreas, NoNumbers, TooBig, NoTask, NothingSent, Busy}
+use Rattle.rh_defs.specs.declared.refusal.Refusal.TheVariants.{NameInUse, TooManyTasks, NoHandles, NoFile, NotABlock, NotYours, ExcessiveShrink, NoRoom, NoArea, TooManyAreas, NoNumbers, TooBig, NoTask, NothingSent, Busy, WrongManner}
 use Rattle.rh_defs.specs.declared.command.Manner.{Manner}
 use Rattle.rh_defs.specs.declared.reply.Reply.{Reply}
 use Rattle.rh_defs.specs.declared.reply.Reply.TheVariants as reply
@@ -17,7 +17,7 @@ use Rattle.rh_defs.specs.Heap.{Segment, block_at}
 use Rattle.rh_defs.specs.Module.{whole_pages, changed_length, module_claim, module_free, module_resize, module_change}
 use Rattle.rh_defs.specs.Slot.{Slot, slot_begin, slot_alloc, slot_free, slot_extend, slot_mid, slot_put, slot_claim, slot_release, slot_resize, slot_set_budge}
 use Rattle.rh_defs.specs.Post.{post_join, post_is_message, post_death, post_poll}
-use Rattle.rh_defs.specs.Desk.{Desk, Made, most_tasks, free_pages, has_name, named, idle_block, idle_buffer, with_slot, with_module, with_delivered, Task, module_area, module_start, scrap_area, most_made, file_length, next_ref, with_sending, with_taking, send_letter}
+use Rattle.rh_defs.specs.Desk.{Desk, Made, most_tasks, free_pages, has_name, named, idle_block, idle_buffer, with_task, with_slot, with_module, with_delivered, Task, module_area, module_start, scrap_area, most_made, file_length, next_ref, with_sending, with_taking, send_letter}
 use Rattle.rh_defs.specs.declared.command.Command.{Command}
 use Rattle.rh_defs.specs.declared.command.Command.TheVariants as command
 use Rattle.rh_defs.specs.Messages.{Parcel, action_of}
@@ -27,7 +27,12 @@ use Rattle.rh_defs.specs.Sender as sender
 use Rattle.rh_defs.specs.Receiver as receiver
 use Rattle.rh_defs.specs.Questions.{asked}
 use Rattle.rh_defs.specs.OutgoingEvents.{Handled}
-use Rattle.rh_defs.specs.Transfer.{handled}
+use Rattle.rh_defs.specs.Transfer.{received}
+use Rattle.rh_defs.specs.AnyMessage.{as_read}
+use Rattle.rh_defs.specs.IncomingEvents.{without_buffer}
+use Rattle.rh_defs.specs.RawTasks.{is_raw}
+use Rattle.rh_defs.specs.RawCommands.{raw_change, after_answer}
+use Rattle.rh_defs.specs.declared.transfer.Taking.{Taking}
 
 -- the desk after a command, and its reply
 abbrev pub Answer : Type 0
@@ -243,7 +248,12 @@ save d name k to leaf = do
   refuse_if (is_full is_open t.sending) Busy
   r ← found_or (find (has_name to) d.tasks) NoTask
   sent ← send_letter (save_letter t.handle r.handle (length b.here.bytes) leaf) d
+  refuse_if (is_raw t.manner) WrongManner
   Ok (with_sending t.handle (sender.sending_offered (next_ref d) r.handle k) sent, reply.Sent (next_ref d))
+
+-- the desk after a letter of a task of the manner; one with code of its own may answer a DataLoad by any
+abbrev pub after_letter : Manner → Desk → Desk
+after_letter manner sent = if is_raw manner then after_answer sent else sent
 
 -- the last message once more, with another ref
 unfoldable pub repeat : Desk → List ℕ → Granted Answer
@@ -251,16 +261,16 @@ repeat d name = do
   t ← named name d
   last ← found_or t.last_sent NothingSent
   sent ← send_letter (record last.0 { from = t.handle }) d
-  Ok (sent, reply.Sent (next_ref d))
+  Ok (after_letter t.manner sent, reply.Sent (next_ref d))
 
 -- the message as it was taken, and what was done
 abbrev pub event : Parcel → Handled → Answer
 event m after = (after.0, reply.Event m.code (action_of m.message.body) m.message.my_ref m.message.your_ref after.1)
 
--- the message that was taken is handled
+-- the message that was taken is handled, as the task reads it
 unfoldable pub poll_taken : Desk → Task → Option Parcel → Answer
 poll_taken d t None = (d, reply.NoEvent)
-poll_taken d t (Some m) = event m (handled d t m m.code)
+poll_taken d t (Some m) = event (as_read m) (received d t (as_read m))
 
 -- the message that the task holds bounces, and the next one is taken and handled
 unfoldable pub poll : Desk → List ℕ → Granted Answer
@@ -269,12 +279,17 @@ poll d name = do
   let after = post_poll t.handle d.post in
       Ok (poll_taken (with_delivered after.0 d) t after.1)
 
+-- the buffer of a transfer goes, where there is one
+abbrev pub with_released : ℕ → Option Taking → Desk → Desk
+with_released h None d = d
+with_released h (Some f) d = with_task h (λ t. record t { slot = without_buffer f.buffer t.slot }) d
+
 -- a transfer that comes in is given up
 unfoldable pub cancel_in : Desk → List ℕ → Option ℕ → Granted Answer
 cancel_in d name id = do
   t ← named name d
   records ← receiver.cancel_taking id t.taking
-  Ok (with_taking t.handle (λ _. records) d, reply.Done)
+  Ok (with_taking t.handle (λ _. records) (with_released t.handle (receiver.released_by id t.taking) d), reply.Done)
 
 -- a transfer that goes out is given up
 unfoldable pub cancel_out : Desk → List ℕ → Option ℕ → Granted Answer
@@ -310,6 +325,7 @@ change d (command.Remove k) = remove d k
 change d (command.RmaClaim n) = rma_claim d n
 change d (command.RmaFree address) = rma_free d address
 change d (command.RmaResize address delta) = rma_resize d address delta
+change d (command.Raw c) = raw_change d c
 change d (command.Ask q) = asked d q >>= λ told. Ok (d, reply.Answered told.0)
 
 -- one command: a refusal leaves the desk as it was

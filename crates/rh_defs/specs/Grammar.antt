@@ -4,18 +4,26 @@
 -- `-` of naturals doesn't have to stop: there is an anchor at least.
 use Rattle.std.specs.Prelude.{ℕ, ◌-◌, Bool, true, false, List, [], ◌∷◌, map, Option, Some, None, ℤ, pos, codes}
 use Rattle.rh_defs.specs.declared.command.Command.{Command}
-use Rattle.rh_defs.specs.declared.command.Command.TheVariants.{Task, Kill, Alloc, Load, Put, Free, Extend, Mid, Claim, Release, Resize, Budge, Save, Poll, CancelIn, CancelOut, Repeat, Area, Make, Remove, RmaClaim, RmaFree, RmaResize, Ask}
+use Rattle.rh_defs.specs.declared.command.Command.TheVariants.{Task, Kill, Alloc, Load, Put, Free, Extend, Mid, Claim, Release, Resize, Budge, Save, Poll, CancelIn, CancelOut, Repeat, Area, Make, Remove, RmaClaim, RmaFree, RmaResize, Ask, Raw}
 use Rattle.rh_defs.specs.declared.question.Question.{Question}
-use Rattle.rh_defs.specs.declared.question.Question.TheVariants.{Show, Blocks, Heap, Status, Areas}
+use Rattle.rh_defs.specs.declared.question.Question.TheVariants.{Show, Read, Blocks, Heap, Status, Areas}
 use Rattle.rh_defs.specs.declared.command.Manner.{Manner}
-use Rattle.rh_defs.specs.declared.command.Manner.TheVariants.{Plain, Deaf, File}
-use Rattle.rh_defs.specs.Forms.{first_made, last_made, most_pages}
+use Rattle.rh_defs.specs.declared.command.Manner.TheVariants as manner
+use Rattle.rh_defs.specs.declared.raw_command.RawCommand.{RawCommand}
+use Rattle.rh_defs.specs.declared.raw_command.RawCommand.TheVariants.{Send, Write, Transfer, Ack, Spool, Scrap}
+use Rattle.rh_defs.specs.Forms.{first_made, last_made, most_pages, last_ref}
 use Rattle.rh_defs.specs.declared.sizes.TheConstants.{GREATEST_NUMBER, LONGEST_BUFFER}
 use Rattle.rh_defs.specs.Slot.{anchor_count}
 
--- the form of a word: a name, a leafname, a decimal number from low to high, the ref of a message, a number that may
--- have `-` before it, an address, bytes in hexadecimal digits, one of two words; or a word of a form that may be left
--- out at the end
+-- which of three words
+pub data Third : Type 0 where
+  First : Third
+  Middle : Third
+  Last : Third
+
+-- the form of a word: a name, a leafname, a decimal number from low to high, the ref of a message or a task's handle, a
+-- number that may have `-` before it, an address, bytes in hexadecimal digits, the data of a message in such digits, one
+-- of two words, one of three; or a word of a form that may be left out at the end
 pub data Form : Type 0 where
   Name : Form
   Leaf : Form
@@ -24,10 +32,12 @@ pub data Form : Type 0 where
   Delta : Form
   Address : Form
   Bytes : Form
+  Data : Form
   Choice : (first second : List ℕ) → Form
+  Choices : (first second third : List ℕ) → Form
   Maybe : Form → Form
 
--- what a word of a form spells; of two words, whether it is the first
+-- what a word of a form spells; of two words, whether it is the first, and of three, which one
 abbrev pub Value : Form → Type 0
 Value Name = List ℕ
 Value Leaf = List ℕ
@@ -36,7 +46,9 @@ Value Ref = ℕ
 Value Delta = ℤ
 Value Address = ℕ
 Value Bytes = List ℕ
+Value Data = List ℕ
 Value (Choice first second) = Bool
+Value (Choices first second third) = Third
 Value (Maybe form) = Option (Value form)
 
 -- what makes a command of words of these forms
@@ -82,15 +94,21 @@ abbrev pub Size : Form
 Size = Number 0 GREATEST_NUMBER
 
 -- the manner of a task that the last word may give, and back
-abbrev pub manner_of : Option Bool → Manner
-manner_of None = Plain
-manner_of (Some true) = Deaf
-manner_of (Some false) = File
+abbrev pub manner_of : Option Third → Manner
+manner_of None = manner.Plain
+manner_of (Some First) = manner.Deaf
+manner_of (Some Middle) = manner.File
+manner_of (Some Last) = manner.Raw
 
-abbrev pub manner_word : Manner → Option Bool
-manner_word Plain = None
-manner_word Deaf = Some true
-manner_word File = Some false
+abbrev pub manner_word : Manner → Option Third
+manner_word manner.Plain = None
+manner_word manner.Deaf = Some First
+manner_word manner.File = Some Middle
+manner_word manner.Raw = Some Last
+
+-- the form of that word
+abbrev pub MannerWord : Form
+MannerWord = Choices (codes "deaf") (codes "file") (codes "raw")
 
 -- a cancel of what comes in, or goes out
 abbrev pub cancel_of : List ℕ → Bool → Option ℕ → Command
@@ -98,11 +116,10 @@ cancel_of name true id = CancelIn name id
 cancel_of name false id = CancelOut name id
 
 -- a new task, and a cancel either way, of which the words spell more than the parts of one command
-abbrev pub task_spelled :
-    Values (Name ∷ Number 1 LONGEST_BUFFER ∷ Maybe (Choice (codes "deaf") (codes "file")) ∷ []) → Spelling
+abbrev pub task_spelled : Values (Name ∷ Number 1 LONGEST_BUFFER ∷ Maybe MannerWord ∷ []) → Spelling
 task_spelled =
-    spelled (codes "task") (Name ∷ Number 1 LONGEST_BUFFER ∷ Maybe (Choice (codes "deaf") (codes "file")) ∷ [])
-    (λ name buffer deaf. Task name buffer (manner_of deaf))
+    spelled (codes "task") (Name ∷ Number 1 LONGEST_BUFFER ∷ Maybe MannerWord ∷ [])
+    (λ name buffer word. Task name buffer (manner_of word))
 
 abbrev pub cancel_spelled : Values (Name ∷ Choice (codes "in") (codes "out") ∷ Maybe Ref ∷ []) → Spelling
 cancel_spelled = spelled (codes "cancel") (Name ∷ Choice (codes "in") (codes "out") ∷ Maybe Ref ∷ []) cancel_of
@@ -111,10 +128,36 @@ cancel_spelled = spelled (codes "cancel") (Name ∷ Choice (codes "in") (codes "
 abbrev pub question_spelling : Question → Spelling
 question_spelling (Show name k) =
     spelled (codes "show") (Name ∷ Anchor ∷ []) (λ name k. Ask (Show name k)) (name, (k, tt))
+question_spelling (Read name place n) =
+    spelled (codes "read") (Name ∷ Address ∷ Size ∷ []) (λ name place n. Ask (Read name place n)) (name, (place, (n, tt)))
 question_spelling (Blocks name) = spelled (codes "blocks") (Name ∷ []) (λ name. Ask (Blocks name)) (name, tt)
 question_spelling (Heap name) = spelled (codes "heap") (Name ∷ []) (λ name. Ask (Heap name)) (name, tt)
 question_spelling (Status name) = spelled (codes "status") (Name ∷ []) (λ name. Ask (Status name)) (name, tt)
 question_spelling Areas = spelled (codes "areas") [] (Ask Areas) tt
+
+-- any word that a message may have
+abbrev pub AnyNumber : Form
+AnyNumber = Number 0 last_ref
+
+-- how a command of a task with code of its own is spelled
+abbrev pub raw_spelling : RawCommand → Spelling
+raw_spelling (Send name recorded to ref a bytes) =
+    spelled (codes "send") (Name ∷ Choice (codes "18") (codes "17") ∷ Ref ∷ AnyNumber ∷ AnyNumber ∷ Maybe Data ∷ [])
+    (λ name recorded to ref a bytes. Raw (Send name recorded to ref a bytes))
+    (name, (recorded, (to, (ref, (a, (bytes, tt))))))
+raw_spelling (Write name place bytes) =
+    spelled (codes "write") (Name ∷ Address ∷ Bytes ∷ []) (λ name place bytes. Raw (Write name place bytes))
+    (name, (place, (bytes, tt)))
+raw_spelling (Transfer name place to there n) =
+    spelled (codes "transfer") (Name ∷ Address ∷ Ref ∷ Address ∷ Size ∷ [])
+    (λ name place to there n. Raw (Transfer name place to there n))
+    (name, (place, (to, (there, (n, tt)))))
+raw_spelling (Ack name) = spelled (codes "ack") (Name ∷ []) (λ name. Raw (Ack name)) (name, tt)
+raw_spelling (Spool name k to ref) =
+    spelled (codes "spool") (Name ∷ Anchor ∷ Ref ∷ AnyNumber ∷ []) (λ name k to ref. Raw (Spool name k to ref))
+    (name, (k, (to, (ref, tt))))
+raw_spelling (Scrap name k) =
+    spelled (codes "scrap") (Name ∷ Anchor ∷ []) (λ name k. Raw (Scrap name k)) (name, (k, tt))
 
 -- how a command is spelled: its row, and the values of the words behind the row's own
 abbrev pub spelling : Command → Spelling
@@ -146,14 +189,16 @@ spelling (RmaClaim n) = rma_spelled (codes "claim") (Size ∷ []) RmaClaim (n, t
 spelling (RmaFree place) = rma_spelled (codes "free") (Address ∷ []) RmaFree (place, tt)
 spelling (RmaResize place by) = rma_spelled (codes "resize") (Address ∷ Delta ∷ []) RmaResize (place, (by, tt))
 spelling (Ask q) = question_spelling q
+spelling (Raw c) = raw_spelling c
 
 -- one command of each row, which is that of all others of its kind, in the order in which a line is compared with them
 abbrev samples : List Command
 samples =
-    Task [] 0 Plain ∷ Kill [] ∷ Alloc [] 0 0 ∷ Load [] 0 [] ∷ Put [] 0 0 [] ∷ Free [] 0 ∷ Extend [] 0 0
+    Task [] 0 manner.Plain ∷ Kill [] ∷ Alloc [] 0 0 ∷ Load [] 0 [] ∷ Put [] 0 0 [] ∷ Free [] 0 ∷ Extend [] 0 0
     ∷ Mid [] 0 0 (pos 0) ∷ Claim [] 0 ∷ Release [] 0 ∷ Resize [] 0 (pos 0) ∷ Budge [] true ∷ Save [] 0 [] [] ∷ Poll []
     ∷ CancelIn [] None ∷ Repeat [] ∷ Area 0 (pos 0) ∷ Make 0 ∷ Remove 0 ∷ RmaClaim 0 ∷ RmaFree 0 ∷ RmaResize 0 (pos 0)
-    ∷ Ask (Show [] 0) ∷ Ask (Blocks []) ∷ Ask (Heap []) ∷ Ask (Status []) ∷ Ask Areas ∷ []
+    ∷ Raw (Send [] true 0 0 0 None) ∷ Raw (Write [] 0 []) ∷ Raw (Transfer [] 0 0 0 0) ∷ Raw (Ack []) ∷ Raw (Spool [] 0 0 0)
+    ∷ Raw (Scrap [] 0) ∷ Ask (Show [] 0) ∷ Ask (Read [] 0 0) ∷ Ask (Blocks []) ∷ Ask (Heap []) ∷ Ask (Status []) ∷ Ask Areas ∷ []
 
 -- the rows of all commands
 unfoldable pub rows : List GrammarRow

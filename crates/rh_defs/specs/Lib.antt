@@ -16,8 +16,10 @@ pub mod Module
 pub mod Slot
 pub mod SlotImage
 pub mod Pathnames
+pub mod OtherBodies
 pub mod Messages
 pub mod MessageImage
+pub mod AnyMessage
 pub mod Post
 pub mod Records
 pub mod Sender
@@ -27,8 +29,10 @@ pub mod Desk
 pub mod Places
 pub mod OutgoingEvents
 pub mod IncomingEvents
+pub mod RawTasks
 pub mod Transfer
 pub mod Questions
+pub mod RawCommands
 pub mod Commands
 pub mod Order
 pub mod Runs

@@ -12,8 +12,9 @@ use Rattle.rh_defs.specs.declared.command.Command.{Command}
 use Rattle.rh_defs.specs.declared.fault.LineFault.{LineFault}
 use Rattle.rh_defs.specs.declared.fault.LineFault.TheVariants.{TooLong, Unknown, Count, Word}
 use Rattle.rh_defs.specs.declared.sizes.TheConstants.{GREATEST_NUMBER, LONGEST_LINE}
+use Rattle.rh_defs.specs.OtherBodies.{is_whole}
 use Rattle.rh_defs.specs.Forms.{is_name, is_decimal, is_leaf, number_of, last_ref}
-use Rattle.rh_defs.specs.Grammar.{Form, Name, Leaf, Number, Ref, Delta, Address, Bytes, Choice, Maybe, Value, Maker, GrammarRow, rows}
+use Rattle.rh_defs.specs.Grammar.{Form, Name, Leaf, Number, Ref, Delta, Address, Bytes, Data, Choice, Choices, Maybe, Third, First, Middle, Last, Value, Maker, GrammarRow, rows}
 
 -- what a part of a line means, or its fault
 abbrev pub Meaning : Type 0 → Type 0
@@ -94,6 +95,18 @@ bytes_read_at words n = let w = nth_word words n in bytes_if n (nat_le 1 (length
     bytes_if n true (Some bytes) = Ok bytes
     bytes_if n _ _ = Err (Word n)
 
+-- word n as the data of a message: hexadecimal digits of whole words, at least one
+unfoldable pub data_read_at : List (List ℕ) → ℕ → Meaning (List ℕ)
+data_read_at words n = bytes_read_at words n >>= λ bytes. (if is_whole bytes then Ok bytes else Err (Word n))
+
+-- word n as one of three words
+unfoldable pub choices_at : List (List ℕ) → ℕ → List ℕ → List ℕ → List ℕ → Meaning Third
+choices_at words n first second third =
+    if bytes_eq (nth_word words n) first then Ok First
+    else if bytes_eq (nth_word words n) second then Ok Middle
+    else if bytes_eq (nth_word words n) third then Ok Last
+    else Err (Word n)
+
 -- ---- the commands, by the rows of the table
 
 -- word n as a form says; one that may be left out is the last, and is left out where the line ends before it
@@ -105,7 +118,9 @@ value_at Ref words n = number_at words n 1 last_ref
 value_at Delta words n = delta_at words n
 value_at Address words n = address_at words n
 value_at Bytes words n = bytes_read_at words n
+value_at Data words n = data_read_at words n
 value_at (Choice first second) words n = choice_at words n first second
+value_at (Choices first second third) words n = choices_at words n first second third
 value_at (Maybe form) words n =
     if length words == n - 1 then Ok None else (value_at form words n >>= λ value. Ok (Some value))
 

@@ -11,7 +11,7 @@ use Rattle.rh_defs.specs.declared.message.Action.{Action}
 use Rattle.rh_defs.specs.declared.message.Action.TheVariants as action
 use Rattle.rh_defs.specs.declared.message.FileData.{FileData}
 use Rattle.rh_defs.specs.declared.message.Body.{Body}
-use Rattle.rh_defs.specs.declared.message.Body.TheVariants.{DataSave, DataSaveAck, DataLoad, DataLoadAck, RamFetch, RamTransmit}
+use Rattle.rh_defs.specs.declared.message.Body.TheVariants.{DataSave, DataSaveAck, DataLoad, DataLoadAck, RamFetch, RamTransmit, Other}
 use Rattle.rh_defs.specs.declared.message.Message.{Message}
 use Rattle.rh_defs.specs.declared.message.MessageFault.{MessageFault}
 use Rattle.rh_defs.specs.declared.message.MessageFault.TheVariants.{BadLength, BadAction}
@@ -36,8 +36,9 @@ SpellsTail b end (DataLoad f) = SpellsName b end f.name
 SpellsTail b end (DataLoadAck f) = SpellsName b end f.name
 SpellsTail b end (RamFetch buffer n) = 28 ≤ end
 SpellsTail b end (RamTransmit buffer n) = 28 ≤ end
+SpellsTail b end (Other o) = ⊥
 
--- The bytes spell the message. There may be more bytes than the length says, and a length may be greater than its message needs.
+-- The bytes spell the message, of one of the six kinds. There may be more bytes than the length says, and a length may be greater than its message needs.
 pub record SpellsMessage (b : List ℕ) (m : Message) : Type 0 where
   pub least : 20 ≤ word b 0
   pub most : word b 0 ≤ LONGEST_MESSAGE
@@ -82,6 +83,7 @@ body_for b end (Some action.DataLoad) = about_file DataLoad (file_in b end)
 body_for b end (Some action.DataLoadAck) = about_file DataLoadAck (file_in b end)
 body_for b end (Some action.RamFetch) = about_ram RamFetch b end
 body_for b end (Some action.RamTransmit) = about_ram RamTransmit b end
+body_for b end (Some (action.Other n)) = Err BadAction
 
 abbrev pub body_in : List ℕ → ℕ → Result Body MessageFault
 body_in b end = body_for b end (action_at (word b 16))

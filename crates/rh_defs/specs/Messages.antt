@@ -1,11 +1,13 @@
 -- What a message says, and the bytes that spell it. Read Bytes and Pathnames first.
--- m is a message, f the data of a file, b a body, p a parcel: a message that is queued or held, in its block of the
--- module area. link is the first word of that block: where the block of the next message is, or 0.
+-- m is a message, f the data of a file, o an action's number and its bytes, b a body, p a parcel: a message that is
+-- queued or held, in its block of the module area. link is the first word of that block: where the block of the next
+-- message is, or 0.
 -- `-` of naturals doesn't have to stop: a rounded length is no less than the length.
-use Rattle.std.specs.Prelude.{◌≡◌, ℕ, ◌+◌, ◌-◌, ◌^◌, ◌<◌, Bool, true, false, ◌==◌, if◌then◌else◌, List, [], ◌∷◌, ◌++◌, length, Option, Some, None}
+use Rattle.std.specs.Prelude.{◌≡◌, ℕ, ◌+◌, ◌-◌, ◌^◌, ◌<◌, Bool, true, false, ◌==◌, if◌then◌else◌, List, [], ◌∷◌, ◌++◌, length, unwrap_or, Option, Some, None}
 use Rattle.rh_defs.specs.Bytes.{with_part, word_bytes}
 use Rattle.rh_defs.specs.Pieces.{round_up, zeros}
 use Rattle.rh_defs.specs.Pathnames.{is_pathname}
+use Rattle.rh_defs.specs.OtherBodies.{is_other}
 use Rattle.rh_defs.specs.Heap.{block_room}
 use Rattle.rh_defs.specs.declared.message.EventCode.{EventCode}
 use Rattle.rh_defs.specs.declared.message.EventCode.TheVariants.{User, Recorded, Acknowledge}
@@ -13,7 +15,7 @@ use Rattle.rh_defs.specs.declared.message.Action.{Action}
 use Rattle.rh_defs.specs.declared.message.Action.TheVariants as action
 use Rattle.rh_defs.specs.declared.message.FileData.{FileData}
 use Rattle.rh_defs.specs.declared.message.Body.{Body}
-use Rattle.rh_defs.specs.declared.message.Body.TheVariants.{DataSave, DataSaveAck, DataLoad, DataLoadAck, RamFetch, RamTransmit}
+use Rattle.rh_defs.specs.declared.message.Body.TheVariants.{DataSave, DataSaveAck, DataLoad, DataLoadAck, RamFetch, RamTransmit, Other}
 use Rattle.rh_defs.specs.declared.message.Message.{Message}
 
 -- ---- event codes
@@ -39,6 +41,7 @@ action_number action.DataLoad = 3
 action_number action.DataLoadAck = 4
 action_number action.RamFetch = 6
 action_number action.RamTransmit = 7
+action_number (action.Other n) = n
 
 abbrev pub action_at : ℕ → Option Action
 action_at n =
@@ -50,6 +53,10 @@ action_at n =
     else if n == 7 then Some action.RamTransmit
     else None
 
+-- the action with a number, one of the six or another
+abbrev pub action_named : ℕ → Action
+action_named n = unwrap_or (action_at n) (action.Other n)
+
 abbrev pub action_of : Body → Action
 action_of (DataSave f) = action.DataSave
 action_of (DataSaveAck f) = action.DataSaveAck
@@ -57,6 +64,12 @@ action_of (DataLoad f) = action.DataLoad
 action_of (DataLoadAck f) = action.DataLoadAck
 action_of (RamFetch buffer n) = action.RamFetch
 action_of (RamTransmit buffer n) = action.RamTransmit
+action_of (Other o) = action.Other o.0
+
+-- whether a body is one of the six kinds
+abbrev pub is_kind : Body → Bool
+is_kind (Other o) = false
+is_kind body = true
 
 -- ---- bytes
 -- numbers as words, one after the other
@@ -79,6 +92,7 @@ data_words (DataLoad f) = file_words f
 data_words (DataLoadAck f) = file_words f
 data_words (RamFetch buffer n) = buffer ∷ n ∷ []
 data_words (RamTransmit buffer n) = buffer ∷ n ∷ []
+data_words (Other o) = []
 
 -- the bytes behind those words
 abbrev pub tail_bytes : Body → List ℕ
@@ -88,6 +102,7 @@ tail_bytes (DataLoad f) = name_bytes f.name
 tail_bytes (DataLoadAck f) = name_bytes f.name
 tail_bytes (RamFetch buffer n) = []
 tail_bytes (RamTransmit buffer n) = []
+tail_bytes (Other o) = o.1
 
 -- the action and what follows it
 unfoldable pub body_bytes : Body → List ℕ
@@ -113,8 +128,9 @@ HasName (DataLoad f) = is_pathname f.name ≡ true
 HasName (DataLoadAck f) = is_pathname f.name ≡ true
 HasName (RamFetch buffer n) = Unit {0}
 HasName (RamTransmit buffer n) = Unit {0}
+HasName (Other o) = (o.0 < 2 ^ 32) × (is_other o.0 o.1 ≡ true)
 
--- its numbers are words, and its name can stand in a message
+-- its numbers are words, and its name can stand in a message, or its bytes can
 pub record Fits (m : Message) : Type 0 where
   pub from : m.from < 2 ^ 32
   pub my_ref : m.my_ref < 2 ^ 32

@@ -2,7 +2,7 @@
 -- x and y are addresses, n and m numbers of bytes, k an anchor, s a slot, b a cut at the block that holds the bytes.
 -- `-` of naturals stops at 0: an address below the C heap becomes 0 there, where no block is. A block that was found
 -- holds the address, which makes the offset in it exact.
-use Rattle.std.specs.Prelude.{ℕ, zero, suc, ◌+◌, ◌-◌, Bool, ◌&&◌, nat_lt, nat_le, if◌then◌else◌, List, [], length, take, Option, Some, None}
+use Rattle.std.specs.Prelude.{ℕ, zero, suc, ◌+◌, ◌-◌, Bool, ◌&&◌, nat_lt, nat_le, if◌then◌else◌, List, [], length, take, drop, Option, Some, None}
 use Rattle.rh_defs.specs.Pieces.{Split, with_here, written}
 use Rattle.rh_defs.specs.Heap.{Segment, Used, bytes_of, place_after, block_around}
 use Rattle.rh_defs.specs.Slot.{Slot, Flex, heap_start, flex_address, flex_around, heap_block_at, is_used, with_block_bytes, with_heap, anchor_count}
@@ -35,6 +35,24 @@ written_around x bytes (Some b) s = with_block_bytes b (written b.here.bytes (x 
 abbrev pub written_in : ℕ → List ℕ → Option (Split Segment) → Slot → Slot
 written_in x bytes (Some b) s = with_heap_bytes b 0 bytes s
 written_in x bytes None s = written_around x bytes (flex_around x (length bytes) s) s
+
+-- n bytes at an address, of the block of the C heap that holds them
+abbrev pub bytes_in_heap : ℕ → ℕ → Option (Split Segment) → List ℕ
+bytes_in_heap x n None = []
+bytes_in_heap x n (Some b) = take n (drop (x - (heap_start + place_after b.before + 4)) (bytes_of b.here))
+
+-- n bytes at an address: of the flex block that holds them where there is one, else of the C heap's
+abbrev pub bytes_around : ℕ → ℕ → Slot → Option (Split Flex) → List ℕ
+bytes_around x n s None = bytes_in_heap x n (block_around (x - heap_start) n s.heap)
+bytes_around x n s (Some b) = take n (drop (x - flex_address s b.before) b.here.bytes)
+
+-- n bytes at an address of a slot
+abbrev pub bytes_held : ℕ → ℕ → Slot → List ℕ
+bytes_held x n s = bytes_around x n s (flex_around x n s)
+
+-- the slot with bytes written at an address, in the block that holds them
+abbrev pub written_held : ℕ → List ℕ → Slot → Slot
+written_held x bytes s = written_around x bytes (flex_around x (length bytes) s) s
 
 -- whether n bytes at x and m bytes at y share one
 abbrev pub overlap : ℕ → ℕ → ℕ → ℕ → Bool

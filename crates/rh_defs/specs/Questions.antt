@@ -1,7 +1,7 @@
 -- What is asked of a desk: of each question its whole answer, or its refusal, and what is read item by item.
 -- Read Desk first. d is the desk, t the task, k an anchor, b a cut at its block, i the number of an item, counted from
 -- 0. A step alone in a `do` counts for its refusal alone.
-use Rattle.std.specs.Prelude.{ℕ, ◌+◌, nat_lt, ◌==◌, if◌then◌else◌, List, [], ◌∷◌, ◌++◌, length, take, drop, map, slice_get, Option, Ok, Bool, false, ◌&&◌}
+use Rattle.std.specs.Prelude.{ℕ, ◌+◌, nat_lt, ◌==◌, if◌then◌else◌, List, [], ◌∷◌, ◌++◌, length, take, drop, map, slice_get, Option, Ok, Bool, false, not, ◌&&◌}
 use Rattle.std.specs.List.{enumerate_from}
 use Rattle.std.specs.Option.{option_map}
 use Rattle.rh_defs.specs.declared.question.BlockItem.{BlockItem}
@@ -18,7 +18,8 @@ use Rattle.rh_defs.specs.declared.transfer.Incoming.{Incoming}
 use Rattle.rh_defs.specs.declared.transfer.Incoming.TheVariants as incoming
 use Rattle.rh_defs.specs.Chain.{Granted, ◌>>=◌, ◌>>◌, refuse_if}
 use Rattle.rh_defs.specs.Heap.{Segment, Used, Hole, size_of, first_place, segment_at, largest, free_bytes}
-use Rattle.rh_defs.specs.Slot.{Slot, Flex, weight, heap_start, flex_start, slot_block}
+use Rattle.rh_defs.specs.Slot.{Slot, Flex, weight, heap_start, flex_start, slot_block, holds}
+use Rattle.rh_defs.specs.Places.{bytes_held}
 use Rattle.rh_defs.specs.Desk.{Desk, Made, task_pages, module_pages, free_pages, named, module_area}
 use Rattle.rh_defs.specs.declared.question.Question.{Question}
 use Rattle.rh_defs.specs.declared.question.Question.TheVariants as question
@@ -96,6 +97,13 @@ show d name k = do
   b ← slot_block k t.slot
   Ok (numbers.Shown (length b.here.bytes), Bytes b.here.bytes)
 
+-- n bytes at an address of the slot, which lie whole in one live block
+unfoldable pub read : Desk → List ℕ → ℕ → ℕ → Granted Told
+read d name x n = do
+  t ← named name d
+  refuse_if (not (holds x n t.slot)) BadRange
+  Ok (numbers.Shown n, Bytes (bytes_held x n t.slot))
+
 -- how many blocks the task has, and each of them
 unfoldable pub blocks : Desk → List ℕ → Granted Told
 blocks d name = do
@@ -121,6 +129,7 @@ areas d = (numbers.FreePages (free_pages d), Areas (area_items d))
 -- what a question is answered
 abbrev pub asked : Desk → Question → Granted Told
 asked d (question.Show name k) = show d name k
+asked d (question.Read name x n) = read d name x n
 asked d (question.Blocks name) = blocks d name
 asked d (question.Heap name) = heap d name
 asked d (question.Status name) = status d name

@@ -5,7 +5,8 @@ use Rattle.std.specs.List.{list_all}
 use Rattle.rh_defs.specs.declared.command.Command.{Command}
 use Rattle.rh_defs.specs.declared.question.Question.{Question}
 use Rattle.rh_defs.specs.Forms.{is_name, is_delta, is_leaf}
-use Rattle.rh_defs.specs.Grammar.{Form, Name, Leaf, Number, Ref, Delta, Address, Bytes, Choice, Maybe, Value, Values, Spelling, spelled_by, spelling, question_spelling}
+use Rattle.rh_defs.specs.OtherBodies.{is_whole}
+use Rattle.rh_defs.specs.Grammar.{Form, Name, Leaf, Number, Ref, Delta, Address, Bytes, Data, Choice, Choices, Maybe, Value, Values, Spelling, spelled_by, spelling, question_spelling}
 
 -- whether a value is one of the form; refs count from 1 on; how great an address and a ref may be, their types say
 abbrev pub is_of : (form : Form) → Value form → Bool
@@ -16,7 +17,9 @@ is_of Ref ref = nat_le 1 ref
 is_of Delta amount = is_delta amount
 is_of Address address = true
 is_of Bytes bytes = nat_le 1 (length bytes)
+is_of Data bytes = nat_le 1 (length bytes) && is_whole bytes
 is_of (Choice first second) is_first = true
+is_of (Choices first second third) which = true
 is_of (Maybe form) None = true
 is_of (Maybe form) (Some value) = is_of form value
 

@@ -7,7 +7,7 @@ use Rattle.rh_defs.specs.declared.fault.LineFault.TheVariants.{TooLong, Unended}
 use Rattle.rh_defs.specs.Line.{Meaning, line_means, longest_line}
 use Rattle.rh_defs.specs.Desk.{Desk}
 use Rattle.rh_defs.specs.Commands.{step}
-use Rattle.rh_defs.specs.Text.{reply_text, fault_text}
+use Rattle.rh_defs.specs.Text.{reply_text, with_taken, taken_of, fault_text}
 
 -- a byte at the head of the first of these lines
 abbrev pub onto_line : ℕ → List (List ℕ) → List (List ℕ)
@@ -31,7 +31,7 @@ unended (b ∷ bs) = unended_after b bs (ended (b ∷ bs)) (unended bs)
 -- the reply to what a line means
 abbrev pub meaning_text : Desk → Meaning (Option Command) → List ℕ
 meaning_text d (Ok None) = []
-meaning_text d (Ok (Some c)) = reply_text (step d c).0 c (step d c).1
+meaning_text d (Ok (Some c)) = with_taken (reply_text (step d c).0 c (step d c).1) (taken_of d c)
 meaning_text d (Err fault) = fault_text fault
 
 -- the desk after it

@@ -1,6 +1,6 @@
 -- The text of a reply: its words, one space between them, and its later lines behind two spaces. Read Questions first.
 -- w is a word, b a byte or a block's item, r a reply or a record's item, d a desk, q a question, c a command.
-use Rattle.std.specs.Prelude.{true, false, Bool, ◌&&◌, if◌then◌else◌, ℕ, List, [], ◌∷◌, ◌++◌, map, codes, Ok, Err}
+use Rattle.std.specs.Prelude.{true, false, Bool, ◌&&◌, if◌then◌else◌, ℕ, List, [], ◌∷◌, ◌++◌, map, codes, Option, Some, None, Ok, Err}
 use Rattle.std.specs.List.{flat_map}
 use Rattle.std.specs.Fmt.{decimal, digits}
 use Rattle.hex.specs.Hex.{encode_lower}
@@ -9,7 +9,7 @@ use Rattle.rh_defs.specs.declared.command.Command.TheVariants as command
 use Rattle.rh_defs.specs.declared.fault.LineFault.{LineFault}
 use Rattle.rh_defs.specs.declared.fault.LineFault.TheVariants.{TooLong, Unended, Unknown, Count, Word}
 use Rattle.rh_defs.specs.declared.refusal.Refusal.{Refusal}
-use Rattle.rh_defs.specs.declared.refusal.Refusal.TheVariants.{NameInUse, NoName, TooManyTasks, NoHandles, NoFile, NoBlock, AnchorInUse, NotABlock, NotYours, Busy, NotOpen, NothingSent, BadRange, BadSize, ExcessiveShrink, NoTask, NoRefs, QueueFull, NoBudge, NoRoom, NoArea, TooManyAreas, NoNumbers, TooBig}
+use Rattle.rh_defs.specs.declared.refusal.Refusal.TheVariants.{NameInUse, NoName, TooManyTasks, NoHandles, NoFile, NoBlock, AnchorInUse, NotABlock, NotYours, Busy, NotOpen, NothingSent, BadRange, BadSize, ExcessiveShrink, NoTask, NoRefs, QueueFull, NoBudge, NoRoom, NoArea, TooManyAreas, NoNumbers, TooBig, WrongManner, BadRef}
 use Rattle.rh_defs.specs.declared.message.Action.{Action}
 use Rattle.rh_defs.specs.declared.message.Action.TheVariants as action
 use Rattle.rh_defs.specs.declared.reply.Reply.{Reply}
@@ -24,7 +24,9 @@ use Rattle.rh_defs.specs.declared.question.AreaItem.TheVariants as item
 use Rattle.rh_defs.specs.declared.question.State.{State}
 use Rattle.rh_defs.specs.declared.question.State.TheVariants as state
 use Rattle.rh_defs.specs.declared.question.RecordItem.{RecordItem}
-use Rattle.rh_defs.specs.Messages.{code_number}
+use Rattle.rh_defs.specs.Messages.{Parcel, code_number}
+use Rattle.rh_defs.specs.AnyMessage.{data_bytes}
+use Rattle.rh_defs.specs.RawTasks.{handed_to}
 use Rattle.rh_defs.specs.Desk.{Desk}
 use Rattle.rh_defs.specs.Chain.{Granted}
 use Rattle.rh_defs.specs.Range.{can_be_asked}
@@ -81,6 +83,8 @@ refusal_name NoArea = codes "NoArea"
 refusal_name TooManyAreas = codes "TooManyAreas"
 refusal_name NoNumbers = codes "NoNumbers"
 refusal_name TooBig = codes "TooBig"
+refusal_name WrongManner = codes "WrongManner"
+refusal_name BadRef = codes "BadRef"
 
 -- the reply of a bad line
 unfoldable pub fault_text : LineFault → List ℕ
@@ -95,7 +99,7 @@ abbrev pub on_or_off : Bool → List ℕ
 on_or_off true = codes "on"
 on_or_off false = codes "off"
 
--- the name of what a message is about
+-- the name of what a message is about, or its number
 abbrev pub action_name : Action → List ℕ
 action_name action.DataSave = codes "DataSave"
 action_name action.DataSaveAck = codes "DataSaveAck"
@@ -103,6 +107,7 @@ action_name action.DataLoad = codes "DataLoad"
 action_name action.DataLoadAck = codes "DataLoadAck"
 action_name action.RamFetch = codes "RAMFetch"
 action_name action.RamTransmit = codes "RAMTransmit"
+action_name (action.Other n) = decimal n
 
 -- what was done with a message
 abbrev pub outcome_words : Outcome → Words
@@ -120,6 +125,7 @@ outcome_words (outcome.Saved count ref) = codes "saved" ∷ decimal count ∷ de
 outcome_words (outcome.Loaded count) = codes "loaded" ∷ decimal count ∷ codes "done" ∷ []
 outcome_words (outcome.LoadedFailed count refusal) = codes "loaded" ∷ decimal count ∷ codes "failed" ∷ refusal_name refusal ∷ []
 outcome_words outcome.Done = codes "done" ∷ []
+outcome_words outcome.Taken = codes "taken" ∷ []
 
 -- ---- the first line
 
@@ -141,6 +147,7 @@ first_line (reply.Started handle) listed = ok (decimal handle ∷ [])
 first_line (reply.Block place) listed = ok (address place ∷ [])
 first_line (reply.WasBudging on) listed = ok (on_or_off on ∷ [])
 first_line (reply.Sent ref) listed = ok (decimal ref ∷ [])
+first_line (reply.Answering ref) listed = ok (decimal ref ∷ [])
 first_line (reply.Moved bytes) listed = ok (decimal bytes ∷ [])
 first_line (reply.Made number) listed = ok (decimal number ∷ [])
 first_line (reply.Answered numbers) listed = ok (map decimal (each_of numbers) ++ hex_words (shown_bytes listed))
@@ -195,6 +202,15 @@ later_lines (Segments segments) = flat_map segment_line segments
 later_lines (Records outgoing incoming) = record_lines (codes "out") outgoing ++ record_lines (codes "in") incoming
 later_lines (Areas areas) = flat_map area_line areas
 
+-- what a task with code of its own is handed: the sender's handle, and the data
+abbrev pub handed_line : Parcel → List ℕ
+handed_line p = later (codes "from") (decimal p.message.from ∷ hex_words (data_bytes p.message.body))
+
+-- the same by its parts; nothing where none is handed out
+abbrev pub handed_text : Option (ℕ × List ℕ) → List ℕ
+handed_text None = []
+handed_text (Some parts) = later (codes "from") (decimal parts.0 ∷ hex_words parts.1)
+
 -- ---- whole replies
 
 -- the answer to a question, or its refusal
@@ -208,3 +224,13 @@ unfoldable pub reply_text : Desk → Command → Reply → List ℕ
 reply_text d (command.Ask q) r =
     if can_be_asked q && begins (asked d q) r then answer_text (asked d q) else first_line r Nothing
 reply_text d c r = first_line r Nothing
+
+-- a text, and with it the line of a message that a task is handed
+abbrev pub with_taken : List ℕ → Option Parcel → List ℕ
+with_taken text None = text
+with_taken text (Some p) = text ++ handed_line p
+
+-- the message that a command on a desk hands to a task with code of its own
+abbrev pub taken_of : Desk → Command → Option Parcel
+taken_of d (command.Poll name) = handed_to name d
+taken_of d c = None

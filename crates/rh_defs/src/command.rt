@@ -13,6 +13,7 @@ use crate::ids::{Anchor, Ref};
 use crate::leaf::Leaf;
 use crate::name::Name;
 use crate::question::Question;
+use crate::raw_command::RawCommand;
 use crate::sizes::{FIRST_MADE, GREATEST_NUMBER, LAST_AREA, LONGEST_BUFFER, MAX_PAGES};
 
 /// How a task takes part in transfers.
@@ -24,6 +25,8 @@ pub enum Manner {
     Deaf,
     /// It answers no RAMFetch, so that its receivers ask for a file.
     File,
+    /// It has code of its own: it is handed its messages, and sends what it wants.
+    Raw,
 }
 
 /// One command.
@@ -152,6 +155,8 @@ pub enum Command {
     },
     /// Asks what leaves all as it is.
     Ask(Question),
+    /// What a task with code of its own does.
+    Raw(RawCommand),
 }
 
 fn is_delta(n: i32) -> bool
@@ -209,6 +214,7 @@ impl Command {
             | Command::Poll { name }
             | Command::Repeat { name } => name.is_valid(),
             Command::Ask(question) => question.in_range(),
+            Command::Raw(command) => command.in_range(),
         }
     }
 
@@ -278,6 +284,7 @@ impl Command {
             | Command::CancelOut { name, .. }
             | Command::Repeat { name } => Some(name),
             Command::Ask(question) => question.task_name(),
+            Command::Raw(command) => command.task_name(),
             Command::Area { .. }
             | Command::Make { .. }
             | Command::Remove { .. }

@@ -1,9 +1,11 @@
 //! Messages: what a task sends, and what a poll hands out.
 
 ghost use Rattle.std.specs.Prelude.{◌≡◌};
-ghost use Rattle.rh_defs.specs.Messages.{action_at, action_number, action_of, code_at, code_number, is_recorded};
+ghost use Rattle.rh_defs.specs.Messages.{action_at, action_named, action_number, action_of, code_at, code_number};
+ghost use Rattle.rh_defs.specs.Messages.{is_recorded};
 
 use crate::ids::{Handle, Ref};
+use crate::other_body::OtherBody;
 use crate::pathname::Pathname;
 use thiserror::Error;
 
@@ -69,6 +71,8 @@ pub enum Action {
     RamFetch,
     /// To take the bytes from the buffer (Message_RAMTransmit, 7).
     RamTransmit,
+    /// Something else, by its number; or one of these, where its data is too short for it.
+    Other(u32),
 }
 
 impl Action {
@@ -83,6 +87,7 @@ impl Action {
             Action::DataLoadAck => 4,
             Action::RamFetch => 6,
             Action::RamTransmit => 7,
+            Action::Other(number) => number,
         }
     }
 
@@ -99,6 +104,13 @@ impl Action {
             7 => Some(Action::RamTransmit),
             _ => None,
         }
+    }
+
+    /// The action with a number: one of the six, or another.
+    pub fn named(number: u32) -> Action
+        ensures { result ≡ action_named number }
+    {
+        Action::from_number(number).unwrap_or(Action::Other(number))
     }
 }
 
@@ -147,6 +159,8 @@ pub enum Body {
     RamFetch { buffer: u32, length: u32 },
     /// So many bytes were written into the buffer at this address.
     RamTransmit { buffer: u32, written: u32 },
+    /// Any other, by its number and its bytes: one that none of these spells byte for byte.
+    Other(OtherBody),
 }
 
 impl Body {
@@ -161,6 +175,7 @@ impl Body {
             Body::DataLoadAck(_) => Action::DataLoadAck,
             Body::RamFetch { .. } => Action::RamFetch,
             Body::RamTransmit { .. } => Action::RamTransmit,
+            Body::Other(other) => Action::Other(other.action()),
         }
     }
 
@@ -181,6 +196,7 @@ impl Body {
                 buffer: *buffer,
                 written: *written,
             },
+            Body::Other(other) => Body::Other(other.copied()),
         }
     }
 }

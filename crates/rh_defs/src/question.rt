@@ -8,6 +8,7 @@ ghost use Rattle.rh_defs.specs.Range.{can_be_asked};
 
 use crate::ids::{Anchor, Handle, Ref};
 use crate::name::Name;
+use crate::sizes::GREATEST_NUMBER;
 use arrayvec::ArrayVec;
 
 /// One question: a command that looks at a desk, and can't change it.
@@ -15,6 +16,8 @@ use arrayvec::ArrayVec;
 pub enum Question {
     /// Shows a flex block's size and bytes (flex_size).
     Show { name: Name, anchor: Anchor },
+    /// Shows the bytes at an address of a slot, which lie whole in one block.
+    Read { name: Name, address: u32, size: u32 },
     /// Lists a slot's flex blocks from below.
     Blocks { name: Name },
     /// Describes the task's C heap (OS_Heap 1), and lists its segments from below.
@@ -32,6 +35,11 @@ impl Question {
     {
         match self {
             Question::Show { name, anchor } => name.is_valid() && anchor.is_valid(),
+            Question::Read {
+                name,
+                address: _,
+                size,
+            } => name.is_valid() && *size <= GREATEST_NUMBER,
             Question::Blocks { name } | Question::Heap { name } | Question::Status { name } => {
                 name.is_valid()
             }
@@ -45,6 +53,7 @@ impl Question {
     {
         match self {
             Question::Show { name, .. }
+            | Question::Read { name, .. }
             | Question::Blocks { name }
             | Question::Heap { name }
             | Question::Status { name } => Some(name),
@@ -59,7 +68,7 @@ pub const MOST_NUMBERS: usize = 3;
 /// What the first line of an answer tells.
 #[derive(Clone, Copy, Debug, PartialEq, Eq)]
 pub enum Numbers {
-    /// The size in bytes of the block that is shown.
+    /// The size in bytes of the block that is shown, or how many bytes are.
     Shown {
         size: u32,
     },

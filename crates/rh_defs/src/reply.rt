@@ -22,6 +22,8 @@ pub enum Reply {
     WasBudging(bool),
     /// The ref of the message that was sent.
     Sent(Ref),
+    /// The ref of the message that was held and is answered now, 0 where none was held.
+    Answering(Ref),
     /// The bytes that an area got or lost.
     Moved {
         bytes: u32,
@@ -75,4 +77,6 @@ pub enum Outcome {
     LoadedFailed { count: u32, refusal: Refusal },
     /// The recipient has loaded the file: the transfer that went out is done.
     Done,
+    /// Nothing: a task with code of its own was handed the message.
+    Taken,
 }

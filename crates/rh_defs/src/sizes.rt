@@ -6,11 +6,11 @@ ghost use Rattle.rh_defs.specs.Pieces.{is_inside, moved, pages_for};
 ghost use Rattle.rh_defs.specs.Slot.{flex_weight};
 ghost use Rattle.rh_defs.specs.declared.sizes.TheConstants.{ANCHORS, FIRST_MADE, FIXED_AREAS, FLEX_HEADER};
 ghost use Rattle.rh_defs.specs.declared.sizes.TheConstants.{GREATEST_NUMBER, HEAP_UNIT, LAST_AREA, LONGEST_BUFFER};
-ghost use Rattle.rh_defs.specs.declared.sizes.TheConstants.{LONGEST_FILE, LONGEST_LEAF, LONGEST_LINE, LONGEST_MESSAGE};
-ghost use Rattle.rh_defs.specs.declared.sizes.TheConstants.{LONGEST_NAME, MADE_AREAS, MAX_AREAS, MAX_PAGES, MAX_TASKS};
-ghost use Rattle.rh_defs.specs.declared.sizes.TheConstants.{MESSAGE_NAME, MIN_PAGES, MODULE_START, MOST_MESSAGES};
-ghost use Rattle.rh_defs.specs.declared.sizes.TheConstants.{MOST_READS, MOST_RECORDS, PAGE, SEGMENTS_AT_ONCE};
-ghost use Rattle.rh_defs.specs.declared.sizes.TheConstants.{SLOT_START, WORD};
+ghost use Rattle.rh_defs.specs.declared.sizes.TheConstants.{LONGEST_DATA, LONGEST_FILE, LONGEST_LEAF, LONGEST_LINE};
+ghost use Rattle.rh_defs.specs.declared.sizes.TheConstants.{LONGEST_MESSAGE, LONGEST_NAME, MADE_AREAS, MAX_AREAS};
+ghost use Rattle.rh_defs.specs.declared.sizes.TheConstants.{MAX_PAGES, MAX_TASKS, MESSAGE_NAME, MESSAGE_WORDS};
+ghost use Rattle.rh_defs.specs.declared.sizes.TheConstants.{MIN_PAGES, MODULE_START, MOST_MESSAGES, MOST_READS};
+ghost use Rattle.rh_defs.specs.declared.sizes.TheConstants.{MOST_RECORDS, PAGE, SEGMENTS_AT_ONCE, SLOT_START, WORD};
 
 /// The bytes of a word, the unit of all layouts.
 pub const WORD: usize = 4;
@@ -107,6 +107,12 @@ pub const MOST_MESSAGES: usize = 256;
 /// The most bytes of a message as it lies in its block, from its length word on.
 pub const LONGEST_MESSAGE: usize = 256;
 
+/// The words of a message before its data: its length, sender, refs and action.
+pub const MESSAGE_WORDS: usize = 5;
+
+/// The most bytes of a message's data.
+pub const LONGEST_DATA: usize = LONGEST_MESSAGE - WORD * MESSAGE_WORDS;
+
 /// Where a message has its file's name.
 pub const MESSAGE_NAME: usize = 44;
 
@@ -149,6 +155,7 @@ pub fn limits_law()
     ensures slots { (ANCHORS ≡ 64) × (FLEX_HEADER ≡ 8) }
     ensures names { (LONGEST_NAME ≡ 12) × (LONGEST_LEAF ≡ 10) }
     ensures messages { (MOST_MESSAGES ≡ 256) × (LONGEST_MESSAGE ≡ 256) × (MESSAGE_NAME ≡ 44) }
+    ensures data { (MESSAGE_WORDS ≡ 5) × (LONGEST_DATA ≡ 236) }
     ensures transfers { (MOST_RECORDS ≡ 8) × (LONGEST_BUFFER ≡ 2 ^ 16) × (LONGEST_FILE ≡ 2 ^ 20) }
     ensures scripts { (LONGEST_LINE ≡ 1024) × (MOST_READS ≡ 1000000) × (GREATEST_NUMBER + 1 ≡ 2 ^ 31) }
     ensures segments { SEGMENTS_AT_ONCE ≡ 64 }

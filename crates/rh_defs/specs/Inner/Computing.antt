@@ -1,6 +1,6 @@
 -- What opens the definitions of whole files, for a proof that computes with them. Nothing here is to be believed.
 use Rattle.rh_defs.specs.Chain.{◌>>=◌, ◌>>◌, refuse_if, found_or, or_else}
-use Rattle.rh_defs.specs.Bytes.{word_bytes, with_part}
+use Rattle.rh_defs.specs.Bytes.{word, part, word_bytes, with_part}
 use Rattle.rh_defs.specs.Slot.{slot_begin, slot_alloc, slot_block, slot_size, slot_address, slot_free, slot_extend, slot_mid, slot_put, slot_read, slot_claim, slot_release, slot_resize, slot_take_pages}
 use Rattle.rh_defs.specs.Module.{module_claim, module_free, module_resize, module_change, module_need_pages}
 use Rattle.rh_defs.specs.Messages.{body_bytes, encoded, parcel_bytes, padded}
@@ -11,11 +11,14 @@ use Rattle.rh_defs.specs.Receiver.{cancel_taking}
 use Rattle.rh_defs.specs.OutgoingEvents.{transmit, save_scrap, send_with, perform_send, fail_sending}
 use Rattle.rh_defs.specs.IncomingEvents.{taking_ended, appended, accept, fetch_more, took, append, ask, loaded, load_file, take_with, perform_take, ack_back}
 use Rattle.rh_defs.specs.Transfer.{delivered, bounced_to, handled}
-use Rattle.rh_defs.specs.Questions.{show, blocks, heap, status, blocks_at, heap_at, status_at, shown_at}
+use Rattle.rh_defs.specs.MessageImage.{decoded}
+use Rattle.rh_defs.specs.AnyMessage.{any_decoded}
+use Rattle.rh_defs.specs.RawCommands.{send, ack, write, transfer, spool, scrap}
+use Rattle.rh_defs.specs.Questions.{show, read, blocks, heap, status, blocks_at, heap_at, status_at, shown_at}
 use Rattle.rh_defs.specs.Commands.{start_task, kill, alloc, load, put, free, extend, mid, claim, release, resize, budge, pages_after, change_module, change_pages, change_made, make, remove, own_block, rma_claim, rma_free, rma_resize, save, repeat, poll_taken, poll, cancel_in, cancel_out}
 use Rattle.rh_defs.specs.Forms.{is_decimal}
 use Rattle.rh_defs.specs.Grammar.{rows}
-use Rattle.rh_defs.specs.Line.{name_at, number_at, bytes_read_at, delta_at, is_address, address_at, leaf_at, choice_at, command_by, line_means}
+use Rattle.rh_defs.specs.Line.{name_at, number_at, bytes_read_at, delta_at, is_address, address_at, leaf_at, choice_at, data_read_at, choices_at, command_by, line_means}
 use Rattle.rh_defs.specs.Text.{address, fault_text, first_line, later_lines, answer_text, reply_text}
 use Rattle.std.specs.Fmt.{digits}
 
@@ -37,7 +40,7 @@ computing_module = tt
 
 -- opens messages and their bytes
 unfoldable pub computing_messages : Unit {0}
-unfolding word_bytes body_bytes encoded parcel_bytes padded
+unfolding word part word_bytes body_bytes encoded parcel_bytes padded decoded any_decoded
 computing_messages = tt
 
 -- opens the post
@@ -61,7 +64,7 @@ computing_transfers = tt
 unfoldable pub computing_commands : Unit {0}
 unfolding start_task kill alloc load put free extend mid claim release resize budge pages_after change_module
     change_pages change_made make remove own_block rma_claim rma_free rma_resize save repeat poll_taken poll cancel_in
-    cancel_out show blocks heap status blocks_at heap_at status_at shown_at
+    cancel_out send ack write transfer spool scrap show read blocks heap status blocks_at heap_at status_at shown_at
 computing_commands = tt
 
 -- opens all that a run computes with
@@ -72,8 +75,8 @@ computing_runs = tt
 
 -- opens the meaning of a line
 unfoldable pub computing_line : Unit {0}
-unfolding is_decimal name_at number_at bytes_read_at delta_at is_address address_at leaf_at choice_at rows command_by
-    line_means ◌>>=◌
+unfolding is_decimal name_at number_at bytes_read_at delta_at is_address address_at leaf_at choice_at data_read_at
+    choices_at rows command_by line_means ◌>>=◌
 computing_line = tt
 
 -- opens the text of a reply

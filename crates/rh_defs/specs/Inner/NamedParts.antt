@@ -3,12 +3,17 @@ use Rattle.std.specs.Prelude.{Bool, true, false, ℕ, List, Option}
 use Rattle.rh_defs.specs.declared.command.Command.{Command}
 use Rattle.rh_defs.specs.declared.command.Command.TheVariants as command
 use Rattle.rh_defs.specs.declared.question.Question.{Question}
-use Rattle.rh_defs.specs.Grammar.{question_spelling}
+use Rattle.rh_defs.specs.declared.raw_command.RawCommand.{RawCommand}
+use Rattle.rh_defs.specs.Grammar.{question_spelling, raw_spelling}
 use Rattle.rh_defs.specs.Named.{subject}
 
 -- the name of the task that a question is about
 abbrev pub name_asked : Question → Option (List ℕ)
 name_asked q = subject (question_spelling q)
+
+-- the name of the task that gives a command of its own
+abbrev pub name_given : RawCommand → Option (List ℕ)
+name_given c = subject (raw_spelling c)
 
 -- whether a command is about one flex block, which it names by its anchor
 abbrev pub names_anchor : Command → Bool
