@@ -1,5 +1,5 @@
 -- What holds of the action of each message, if it holds for each record that the message may be for.
-use Rattle.rh_safety.proofs.Common.{◌≡◌, ℕ, Bool, true, not, ◌&&◌, List, Option, Some, None, refl, inl, inr, option_map, IfSome, Sending, Taking, Asked}
+use Rattle.rh_safety.proofs.Common.{◌≡◌, ℕ, Bool, true, false, not, ◌&&◌, List, Option, Some, None, refl, inl, inr, option_map, IfSome, Sending, Taking, Asked}
 use Rattle.std.specs.Option.{option_and_then}
 use Rattle.rh_safety.proofs.Common.{Outgoing, Incoming, SendAction, TakeAction, open_of, chosen, Active, Has, FoundActive, active_is, asking_is, drains}
 use Rattle.rh_safety.proofs.Common.{fetches, is_full, open_is}
@@ -43,11 +43,11 @@ module _ (P : TakeAction → Type 0) (ws : List Incoming) where
       go (Some w) q = found w (active_is test ws w q)
 
   -- a DataSave
-  pub save-does : (is_deaf : Bool) (from my_ref : ℕ) → P (take_action.Claim (record { id = my_ref; sender = from })) →
-      IfSome (receiver.on_save is_deaf from my_ref ws) P
-  save-does is_deaf from my_ref claim =
-      chosen (λ (v : Option TakeAction). IfSome v P) (not is_deaf && not (is_full is_going ws))
-      (Some (take_action.Claim (record { id = my_ref; sender = from }))) None claim tt
+  pub save-does : (raw is_deaf : Bool) (from my_ref : ℕ) → P (take_action.Claim (record { id = my_ref; sender = from; raw = raw })) →
+      IfSome (receiver.flagged raw (receiver.on_save is_deaf from my_ref ws)) P
+  save-does raw is_deaf from my_ref claim =
+      chosen (λ (v : Option TakeAction). IfSome (receiver.flagged raw v) P) (not is_deaf && not (is_full is_going ws))
+      (Some (take_action.Claim (record { id = my_ref; sender = from; raw = false }))) None claim tt
 
   -- a transmit of n bytes
   pub transmit-does : (room from my_ref your_ref buffer n : ℕ) →

@@ -11,7 +11,7 @@ use Rattle.rh_safety.proofs.Common.{free_anchor, free_pages, granted, granted-pa
 use Rattle.rh_safety.proofs.Common.{is_deaf, is_equal, is_found, is_full, is_going, is_some, length, load_file, load_letter, loaded, next_ref, not, open_is}
 use Rattle.rh_safety.proofs.Common.{open_of, option_map, or_else-keeps, perform_send, perform_take, refl, save_scrap, scrap_shortage, send_letter, send_with}
 use Rattle.rh_safety.proofs.Common.{slot_alloc, slot_block, slot_claim, sym, take, take_with, taking_ended, task_at, took, transmit, transmit_letter, true}
-use Rattle.rh_safety.proofs.Common.{wider}
+use Rattle.rh_safety.proofs.Common.{flex_address, wider}
 use Rattle.rh_safety.proofs.Common.{with_sending, with_slot, with_taking, with_task, ℕ, ◌&&◌, ◌+◌, ◌==◌, ◌^◌, ◌≡◌, ap, subst, ◌∙◌, nat_le, nat_lt, Parcel}
 use Rattle.rh_defs.specs.declared.message.Body.TheVariants as body
 use Rattle.rh_defs.specs.declared.message.FileData.{FileData}
@@ -23,7 +23,9 @@ use Rattle.rh_defs.specs.declared.transfer_action.SendAction.TheVariants as send
 use Rattle.rh_defs.proofs.Chains.{granted-both}
 use Rattle.rh_defs.specs.IncomingEvents.{end_failed}
 use Rattle.rh_defs.specs.Letters.{ack_letter, load_ack_letter}
+use Rattle.rh_defs.specs.OutgoingEvents.{is_bad_range}
 use Rattle.rh_defs.specs.Places.{first_bytes, written_in}
+use Rattle.rh_defs.specs.RawTasks.{is_raw_at}
 use Rattle.rh_defs.specs.Records.{active_of, asking_of}
 use Rattle.rh_defs.specs.Sender as sender
 use Rattle.rh_defs.specs.Receiver as receiver
@@ -131,7 +133,7 @@ module _ (d : Desk) (t : Task) (m : Parcel) where
 
   -- the answers to a DataSave, a DataSaveAck, a DataLoad and a fetch, and what follows on n bytes
   abbrev pub claim_of : Claim
-  claim_of = record { id = my; sender = from }
+  claim_of = record { id = my; sender = from; raw = is_raw_at from d }
 
   abbrev pub save_of : Sending → SaveFile
   save_of x = record { transfer = x; to = from; answers = my }
@@ -160,6 +162,10 @@ module _ (d : Desk) (t : Task) (m : Parcel) where
     pub source_is : slot_block x.anchor t.slot ≡ Ok source
     pub to : task_at x.recipient d ≡ Some r
     pub letter : send_letter (transmit_letter h (transmit_of buffer n x) (sender.next_part (transmit_of buffer n x) (length source.here.bytes))) d ≡ Ok sent
+    pub range :
+        is_bad_range t r buffer n
+        (flex_address t.slot source.before + (sender.next_part (transmit_of buffer n x) (length source.here.bytes)).offset)
+        (sender.next_part (transmit_of buffer n x) (length source.here.bytes)).n ≡ false
 
   -- what goes out of it, and the recipient's buffer with that
   abbrev pub part_of : ℕ → ℕ → Sending → Split Flex → Part
@@ -260,7 +266,7 @@ module _ (d : Desk) (t : Task) (m : Parcel) where
       } in
       or_else-keeps (Act false (body.RamFetch buffer n)) _
       (granted-then _ _ λ source s. granted-then _ _ λ r to. granted-past _ _ _ λ reach. granted-then _ _ λ sent l.
-      granted (sends x source r sent it (record { source_is = s; to = is_found (task_at x.recipient d) NoTask r to; letter = l })))
+      granted (sends x source r sent it (record { source_is = s; to = is_found (task_at x.recipient d) NoTask r to; letter = l; range = reach })))
       (λ refusal. fails x (outcome.Refused refusal) it (refusal, refl))
 
   filed : (file : FileData) (v : Option Sending) → open_of (sender.asks_for from your) t.sending ≡ v →
@@ -285,7 +291,8 @@ module _ (d : Desk) (t : Task) (m : Parcel) where
       or_else-keeps (Act false (body.DataLoadAck file)) _ (granted-then _ _ λ source s. granted (finishes x source it s))
       (λ refusal. fails x (outcome.Refused refusal) it (refusal, refl))
 
-  claimed : (file : FileData) → Act false (body.DataSave file) (perform_take d t (receiver.on_save (is_deaf t.manner) from my t.taking))
+  claimed : (file : FileData) → Act false (body.DataSave file)
+      (perform_take d t (receiver.flagged (is_raw_at from d) (receiver.on_save (is_deaf t.manner) from my t.taking)))
   unfolding perform_take take_with accept
   claimed file =
       let nothing : Act false (body.DataSave file) (ignored d) = skips (record {
@@ -293,7 +300,7 @@ module _ (d : Desk) (t : Task) (m : Parcel) where
         active = λ f has. refl;
         asking = λ q has. refl;
       }) in
-      either (λ (o : Option TakeAction). Act false (body.DataSave file) (perform_take d t o))
+      either (λ (o : Option TakeAction). Act false (body.DataSave file) (perform_take d t (receiver.flagged (is_raw_at from d) o)))
       (not (is_deaf t.manner) && not (is_full is_going t.taking)) _ None
       (λ can. or_else-keeps (Act false (body.DataSave file)) _
       (granted-then _ _ λ k free. granted-then _ _ λ b claim. granted-then _ _ λ p alloc. granted-then _ _ λ sent l.
@@ -410,6 +417,7 @@ module _ (d : Desk) (t : Task) (m : Parcel) where
       either (Act false (body.RamFetch buffer n)) (answers_none t.manner) (ignored d) _
       (λ none. skips (record { open_ = λ x has. rw none refl; active = λ f has. refl; asking = λ q has. refl })) (λ some. fetched buffer n some _ refl)
   delivered-acts (body.RamTransmit buffer n) = transmitted buffer n _ refl
+  delivered-acts (body.Other o) = skips (record { open_ = λ x has. refl; active = λ f has. refl; asking = λ q has. refl })
 
   bounced_to-acts : (b : Body) → Act true b (bounced_to d t m b)
   unfolding bounced_to
@@ -419,6 +427,7 @@ module _ (d : Desk) (t : Task) (m : Parcel) where
   bounced_to-acts (body.DataLoadAck file) = skips (record { open_ = λ x has. refl; active = λ f has. refl; asking = λ q has. refl })
   bounced_to-acts (body.RamFetch buffer n) = returned buffer n _ refl
   bounced_to-acts (body.RamTransmit buffer n) = failed (λ f. refl) (λ q. refl) _ refl
+  bounced_to-acts (body.Other o) = skips (record { open_ = λ x has. refl; active = λ f has. refl; asking = λ q has. refl })
 
   pub handled-acts : (c : EventCode) → Act (is_back c) m.message.body (handled d t m c)
   unfolding handled

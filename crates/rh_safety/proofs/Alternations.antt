@@ -7,12 +7,15 @@ use Rattle.rh_safety.proofs.Common.{with_delivered, Answer, poll, poll_taken, st
 use Rattle.rh_safety.proofs.Common.{Taking, view, seen_parcel, blocks_of, of, task_of, Has, Out, Open, Out_done, In_done, Fetching, Message, Plain, Edits}
 use Rattle.rh_safety.proofs.Common.{either, and_left, and_right, none_some, Offered, Good, field_is, live_of, Fits}
 use Rattle.std.specs.List.{AllByRecursion}
+use Rattle.rh_safety.proofs.Common.{Handled}
+use Rattle.rh_defs.specs.declared.reply.Outcome.TheVariants as outcome
+use Rattle.rh_defs.specs.AnyMessage.{as_read}
+use Rattle.rh_defs.specs.RawTasks.{is_raw}
 use Rattle.rh_defs.specs.declared.refusal.Refusal.TheVariants.{NoName}
 use Rattle.rh_defs.specs.declared.command.Command.TheVariants as command
 use Rattle.rh_defs.specs.declared.reply.Reply.TheVariants as reply
 use Rattle.rh_defs.specs.Forms.{is_leaf}
 use Rattle.rh_defs.proofs.Steps.{step-keeps}
-use Rattle.rh_safety.specs.Offered.{offers_next}
 use Rattle.rh_safety.specs.Alternation.{is_refused_poll, all_granted, turns, turns_before, CanAlternate, SenderDone, ReceiverDone, EndsDone, Alternates}
 use Rattle.rh_safety.proofs.Sight as sight
 use Rattle.rh_safety.proofs.Basics.{contains_of, not_true}
@@ -21,12 +24,15 @@ use Rattle.rh_safety.proofs.Turns.{Pair, Waiting, Answered, AllCame, Ready, aske
 use Rattle.rh_safety.proofs.Turns.{sent_back, taking_record, takes_it, taken_it, took_full, took_rest, outgoing_at, offer, offer_queued, none_held, pair_of}
 use Rattle.rh_safety.proofs.Turns.{took_first}
 use Rattle.rh_safety.proofs.SeenTasks.{found_task}
-use Rattle.rh_safety.proofs.SeenKeys.{keys_of, named_in, handle_named, SameKeys, handled_keys}
+use Rattle.rh_safety.proofs.SeenKeys.{keys_of, named_in, raw_in, raw_is, handle_named, SameKeys, handled_keys}
 use Rattle.rh_safety.proofs.SeenTaking.{poll_taken_is}
-use Rattle.rh_safety.proofs.SeenSaves.{IsSaved, save_step, save_keeps}
+use Rattle.rh_safety.proofs.SeenSaves.{IsSaved, save_step}
 use Rattle.rh_safety.proofs.SeenDesks.{fits}
 use Rattle.rh_safety.proofs.SeenLaws.{IsReached, block_is}
-use Rattle.rh_safety.proofs.KeptPolls.{poll_keeps}
+use Rattle.rh_safety.specs.RawIds.{Gave}
+use Rattle.rh_safety.proofs.Invariant.{Order}
+use Rattle.rh_safety.proofs.Masks.{masked, masked_message}
+use Rattle.rh_safety.proofs.Raws.{is_known}
 use Rattle.rh_safety.proofs.PollTurns.{Turn, none_is, turn_is, fetch_turn, taker, transmit_turn, save_turn}
 
 -- ---- one poll, by name
@@ -35,9 +41,13 @@ use Rattle.rh_safety.proofs.PollTurns.{Turn, none_is, turn_is, fetch_turn, taker
 abbrev pub IsNamed : List ℕ → Desk → ℕ → Type 0
 IsNamed name d h = named_in name (keys_of d.tasks) ≡ Some h
 
+-- the desk plays the task of the handle
+abbrev pub IsPlayed : Desk → ℕ → Type 0
+IsPlayed d h = raw_in h (keys_of d.tasks) ≡ false
+
 -- the desk after a poll of task h
 pub record IsPolled (d : Desk) (h : ℕ) (a : Answer) : Type 0 where
-  pub turn : (m : Message) → (view d).held h ≡ None → (view d).queue ≡ m ∷ [] → m.to ≡ h → Turn d h m a
+  pub turn : (m : Message) → is_known m.letter.kind ≡ true → IsPlayed d h → (view d).held h ≡ None → (view d).queue ≡ m ∷ [] → m.to ≡ h → Turn d h m a
   pub none : first_for h (sight.returned (view d) h ((view d).held h)).queue ≡ None →
       sight.lost (view a.0) ≡ sight.lost (sight.returned (view d) h ((view d).held h))
   pub keys : SameKeys d a.0
@@ -46,7 +56,8 @@ pub record IsPolled (d : Desk) (h : ℕ) (a : Answer) : Type 0 where
 pub taken_keys : (d : Desk) (t : Task) (v : Option Parcel) → SameKeys d (poll_taken d t v).0
 unfolding poll_taken
 taken_keys d t None = refl
-taken_keys d t (Some m) = handled_keys d t m m.code
+taken_keys d t (Some m) = either (λ (x : Handled). SameKeys d x.0) (is_raw t.manner) (d, outcome.Taken) _ (λ raw. refl)
+    (λ plays. handled_keys d t (as_read m) m.code)
 
 pub delivered_keys : (p : _) (d : Desk) → SameKeys d (with_delivered p d)
 unfolding with_delivered
@@ -70,10 +81,11 @@ pub poll_in_range : (name : List ℕ) → is_name name ≡ true → in_range (co
 unfolding in_range
 poll_in_range name q = q
 
--- what goes on from poll to poll: the invariant, and both tasks with their names
-record Tasks (o : Offered) (e : Edits) (s r : List ℕ) (hs hr : ℕ) (d : Desk) : Type 0 where
+-- what goes on from poll to poll: both tasks with their names, which the desk plays
+record Tasks (s r : List ℕ) (hs hr : ℕ) (d : Desk) : Type 0 where
   pub kept : IsDesk d
-  pub good : Good o e (view d)
+  pub plays_sender : IsPlayed d hs
+  pub plays_receiver : IsPlayed d hr
   pub valid_sender : is_name s ≡ true
   pub valid_receiver : is_name r ≡ true
   pub sender : IsNamed s d hs
@@ -90,18 +102,20 @@ is_polled d name h kept valid is_named =
     let taken = poll_taken_is d t.handle f (live_of d t.handle t is) in
     let same = poll_step d name t w.1 in
     subst (λ (k : ℕ). IsPolled d k (step d (command.Poll name))) w.2 (record {
-      turn = λ m none queue to. subst (λ (y : Answer). Turn d t.handle m y) (sym same) (turn_is d t p taken is m none queue to);
+      turn = λ m known plays none queue to. subst (λ (y : Answer). Turn d t.handle m y) (sym same) (turn_is d t p taken is m known
+          (sym (field_is (λ (y : Task). is_raw y.manner) false t.handle d.tasks t is) ∙ raw_is t.handle d.tasks ∙ plays) none queue to);
       none = λ nothing. subst (λ (y : Answer). sight.lost (view y.0) ≡ sight.lost (sight.returned (view d) t.handle
           ((view d).held t.handle))) (sym same) (none_is d t p taken is nothing);
       keys = subst (λ (y : Answer). SameKeys d y.0) (sym same) (taken_keys (with_delivered p.0 d) t p.1 ∙ delivered_keys p.0 d);
       kept = step-keeps d (command.Poll name) (poll_in_range name valid) kept;
     })
 
-next_tasks : {o : Offered} {e : Edits} {s r : List ℕ} {hs hr : ℕ} {d : Desk} (h : ℕ) (name : List ℕ) →
-    Tasks o e s r hs hr d → IsPolled d h (step d (command.Poll name)) → Tasks o e s r hs hr (step d (command.Poll name)).0
-next_tasks {s = s} {r = r} {d = d} h name t p = record {
+next_tasks : {s r : List ℕ} {hs hr : ℕ} {d : Desk} (h : ℕ) (name : List ℕ) →
+    Tasks s r hs hr d → IsPolled d h (step d (command.Poll name)) → Tasks s r hs hr (step d (command.Poll name)).0
+next_tasks {s = s} {r = r} {hs = hs} {hr = hr} {d = d} h name t p = record {
   kept = p.kept;
-  good = poll_keeps d name (fits d t.kept) t.good;
+  plays_sender = ap (raw_in hs) p.keys ∙ t.plays_sender;
+  plays_receiver = ap (raw_in hr) p.keys ∙ t.plays_receiver;
   valid_sender = t.valid_sender;
   valid_receiver = t.valid_receiver;
   sender = ap (named_in s) p.keys ∙ t.sender;
@@ -118,9 +132,9 @@ rest_granted d c cs q = and_right (not (is_refused_poll (step d c).1)) _ q
 
 -- ---- a turn of each
 
-module _ (o : Offered) (e : Edits) (s r : List ℕ) (p : Pair) where
+module _ (s r : List ℕ) (p : Pair) where
   abbrev IsPair : Desk → Type 0
-  IsPair = Tasks o e s r p.sender p.receiver
+  IsPair = Tasks s r p.sender p.receiver
 
   -- a fetch waits, and so many bytes have come
   record AtFetch (d : Desk) (k : ℕ) : Type 0 where
@@ -145,7 +159,7 @@ module _ (o : Offered) (e : Edits) (s r : List ℕ) (p : Pair) where
   sender_turn d k w within ok =
       let x = w.waits in
       let m = asked p (sight.lost (view d)) k x within in
-      fetch_turn d p.sender m _ ((sender_polled d w.tasks).turn m (x.held p.sender) x.queue refl) ok
+      fetch_turn d p.sender m _ ((sender_polled d w.tasks).turn m refl w.tasks.plays_sender (x.held p.sender) x.queue refl) ok
       (λ z. let y : Recorded ≡ Acknowledge = z in (cc)) refl (open_record p (sight.lost (view d)) k x within) p.source
       x.bytes (record {
         fetches = x.fetches;
@@ -162,7 +176,7 @@ module _ (o : Offered) (e : Edits) (s r : List ℕ) (p : Pair) where
   receiver_turn d k n me v c w t came small ok =
       let D = sight.lost (view d) in
       let m = sent_back p D k n me v c w in
-      transmit_turn d p.receiver m _ ((receiver_polled d t).turn m (w.held p.receiver) w.queue refl) ok came refl
+      transmit_turn d p.receiver m _ ((receiver_polled d t).turn m refl t.plays_receiver (w.held p.receiver) w.queue refl) ok came refl
       (taking_record p D k n me v c w) (same_taker c (taking_record p D k n me v c w) (takes_it p D k n me v c w small))
     where
       same_taker : (c2 : EventCode) (x : Taking) → taker (sight.lost (view d)) p.receiver
@@ -179,9 +193,9 @@ module _ (o : Offered) (e : Edits) (s r : List ℕ) (p : Pair) where
       let n : ℕ = length p.source - k in
       let d1 : Desk = (step d (command.Poll s)).0 in
       let v : Out = Out_done p.id (length p.source) in
+      let turn = sender_turn d k w within (granted d (command.Poll s) (turns r s zero) q) in
       let a : Answered p (sight.lost (view d1)) k n (view d).next_ref v Plain = subst (λ (y : sight.Desk).
-      Answered p y k n (view d).next_ref v Plain) (sym (sender_turn d k w within (granted d (command.Poll s)
-      (turns r s zero) q))) (sent_last p (sight.lost (view d)) k w.waits within short) in
+      Answered p y k n (view d).next_ref v Plain) (sym turn) (sent_last p (sight.lost (view d)) k w.waits within short) in
       let t1 = next_tasks p.sender s w.tasks (sender_polled d w.tasks) in
       let less : n < p.room = omega arith in
       let all : k + n ≡ length p.source = omega arith in
@@ -205,9 +219,9 @@ module _ (o : Offered) (e : Edits) (s r : List ℕ) (p : Pair) where
       let d1 : Desk = (step d (command.Poll s)).0 in
       let d2 : Desk = (step d1 (command.Poll r)).0 in
       let v : Out = Open (outgoing_at p (k + n) (view d).next_ref) in
+      let turn = sender_turn d k w within (granted d (command.Poll s) (turns r s (suc j)) q) in
       let a : Answered p (sight.lost (view d1)) k n (view d).next_ref v Recorded = subst (λ (y : sight.Desk).
-      Answered p y k n (view d).next_ref v Recorded) (sym (sender_turn d k w within (granted d (command.Poll s)
-      (turns r s (suc j)) q))) (sent_full p (sight.lost (view d)) k w.waits within (omega arith)) in
+      Answered p y k n (view d).next_ref v Recorded) (sym turn) (sent_full p (sight.lost (view d)) k w.waits within (omega arith)) in
       let t1 = next_tasks p.sender s w.tasks (sender_polled d w.tasks) in
       let q1 = rest_granted d (command.Poll s) (turns r s (suc j)) q in
       let eq = receiver_turn d1 k n (view d).next_ref v Recorded a t1 (λ z. let y : Recorded ≡ Acknowledge = z in (cc))
@@ -272,14 +286,16 @@ none_seated h (seat ∷ seats) all = either (λ (o : Option Parcel). o ≡ None)
     (held_by h seats) (λ e. all.0) (λ e. none_seated h seats all.1)
 
 -- both tasks are ready
-can_be_ready : {o : Offered} {e : Edits} (d : Desk) (s r : List ℕ) (k : ℕ) (t u : Task) (source : List ℕ) →
-    Fits d → Good o e (view d) → CanAlternate d s r k t u source →
+can_be_ready : {o : Offered} {e : Edits} (R : Gave) (d : Desk) (s r : List ℕ) (k : ℕ) (t u : Task) (source : List ℕ) →
+    Fits d → Good o e (masked R (view d)) → CanAlternate d s r k t u source →
     Ready (sight.lost (view d)) t.handle u.handle k source
-can_be_ready d s r k t u source f g c =
+can_be_ready R d s r k t u source f g c =
+    let empty : (view d).queue ≡ [] = ap (map seen_parcel) c.queue in
+    let ordered : List Message → Type 0 = λ q. Order q (view d).sending (view d).taking (view d).next_ref in
     let is_t : task_of t.handle d.tasks ≡ Some t = found_task (has_name s) d.tasks t f.handles c.sender_is in
     let is_u : task_of u.handle d.tasks ≡ Some u = found_task (has_name r) d.tasks u f.handles c.receiver_is in
     record {
-      queue = ap (map seen_parcel) c.queue;
+      queue = empty;
       held = λ h. ap (option_map seen_parcel) (none_seated h d.post.seats c.held);
       closed = ap (list_any is_open) (field_is (λ (y : Task). y.sending) [] t.handle d.tasks t is_t) ∙ c.closed;
       idle = ap (list_any is_going) (field_is (λ (y : Task). y.taking) [] u.handle d.tasks u is_u) ∙ c.idle;
@@ -287,7 +303,7 @@ can_be_ready d s r k t u source f g c =
           d.tasks t is_t) ∙ block_is t.slot k ∙ c.block;
       fetches = field_is (λ (y : Task). answers_none y.manner) false t.handle d.tasks t is_t ∙ c.answers;
       some = g.inv.ins.room u.handle;
-      order = g.inv.order;
+      order = subst ordered (sym empty) (subst ordered (ap (map (masked_message R)) empty) g.inv.order);
     }
 
 -- a save that was accepted, and polls that are refused nothing
@@ -295,6 +311,7 @@ record IsSavedFor (d : Desk) (s r : List ℕ) (k : ℕ) (leaf : List ℕ) (t u :
     (id : ℕ) : Type 0 where
   pub valid : in_range (command.Save s k r leaf) ≡ true
   pub can : CanAlternate d s r k t u source
+  pub plays : is_raw u.manner ≡ false
   pub accepted : (step d (command.Save s k r leaf)).1 ≡ reply.Sent id
   pub all : all_granted (step d (command.Save s k r leaf)).0 (turns r s (suc (length source / u.buffer))) ≡ true
 
@@ -329,25 +346,25 @@ module _ (d : Desk) (w : IsReached d) (s r : List ℕ) (k : ℕ) (leaf : List �
   abbrev D : sight.Desk
   D = sight.lost (view d)
 
-  abbrev o0 : Offered
-  o0 = offers_next w.offers d save (step d save).1
-
   fitting : Fits d
   fitting = fits d w.kept
 
   ready : Ready D hs hr k source
-  ready = can_be_ready d s r k t u source fitting w.good c.can
+  ready = can_be_ready w.gave d s r k t u source fitting w.stands.good c.can
 
-  saved_is : IsSaved d d0 hs hr k id
+  saved_is : IsSaved d d0 t hr k id
   saved_is = save_step d s k r leaf t u id fitting c.can.sender_is c.can.receiver_is c.accepted
 
   seen0 : sight.lost (view d0) ≡ sight.saved D hs k hr
   seen0 = ap sight.lost saved_is.seen
 
-  tasks0 : Tasks o0 w.edits s r hs hr d0
+  tasks0 : Tasks s r hs hr d0
   tasks0 = record {
     kept = step-keeps d save c.valid w.kept;
-    good = save_keeps d s k r leaf fitting w.good;
+    plays_sender = ap (raw_in hs) saved_is.keys ∙ sym (raw_is hs d.tasks) ∙ field_is (λ (y : Task). is_raw y.manner) false hs d.tasks t
+        (found_task (has_name s) d.tasks t fitting.handles c.can.sender_is) ∙ saved_is.plays;
+    plays_receiver = ap (raw_in hr) saved_is.keys ∙ sym (raw_is hr d.tasks) ∙ field_is (λ (y : Task). is_raw y.manner) false hr d.tasks u
+        (found_task (has_name r) d.tasks u fitting.handles c.can.receiver_is) ∙ c.plays;
     valid_sender = (save_names s k r leaf c.valid).0;
     valid_receiver = (save_names s k r leaf c.valid).1;
     sender = ap (named_in s) saved_is.keys ∙ sym (handle_named s d.tasks) ∙ ap (option_map (λ (y : Task). y.handle))
@@ -370,23 +387,23 @@ module _ (d : Desk) (w : IsReached d) (s r : List ℕ) (k : ℕ) (leaf : List �
       let none = ap (λ (y : sight.Desk). y.held hr) seen0 ∙ none_held D hs hr k source ready hr in
       let queue = ap (λ (y : sight.Desk). y.queue) seen0 ∙ offer_queued D hs hr k source ready in
       subst (λ (y : sight.Desk). Began (sight.picked y hr m Recorded) hr m.letter (sight.lost (view d1))) seen0
-      (save_turn d0 hr m (step d0 (command.Poll r)) (first.turn m none queue refl) (granted d0 (command.Poll r)
+      (save_turn d0 hr m (step d0 (command.Poll r)) (first.turn m refl tasks0.plays_receiver none queue refl) (granted d0 (command.Poll r)
       (command.Poll s ∷ turns r s j) c.all) (λ z. let y : Recorded ≡ Acknowledge = z in (cc)) refl)
 
   abbrev p : Pair
-  p = pair_of D hs hr k source began.anchor began.address
+  p = pair_of D hs hr k source began.anchor began.address began.raw
 
   room_is : p.room ≡ u.buffer
   room_is = field_is (λ (y : Task). y.buffer) 1 hr d.tasks u (found_task (has_name r) d.tasks u fitting.handles
       c.can.receiver_is)
 
-  ends : Ends o0 w.edits s r p (after d1 (command.Poll s ∷ turns_before r s j))
+  ends : Ends s r p (after d1 (command.Poll s ∷ turns_before r s j))
       (after d1 (command.Poll s ∷ turns r s j))
   ends =
       let some : 0 < u.buffer = subst (λ n. 0 < n) room_is ready.some in
       let size = room_is in
       let same : j * p.room ≡ j * u.buffer = ap (λ n. j * n) room_is in
-      more_turns o0 w.edits s r p j d1 0 (record {
+      more_turns s r p j d1 0 (record {
         tasks = next_tasks hr r tasks0 first;
         waits = took_first D hs hr k source ready (sight.lost (view d1)) began;
       }) (omega arith) (omega arith) (rest_granted d0 (command.Poll r) (command.Poll s ∷ turns r s j) c.all)
@@ -399,13 +416,14 @@ module _ (d : Desk) (w : IsReached d) (s r : List ℕ) (k : ℕ) (leaf : List �
   })
 
 pub alternates : (d : Desk) → IsReached d → Alternates d
-alternates d w s r k leaf t u source id valid can accepted all =
+alternates d w s r k leaf t u source id plays valid can accepted all =
     let j : ℕ = length source / u.buffer in
     let d0 : Desk = (step d (command.Save s k r leaf)).0 in
     let one : suc j ≡ j + 1 = omega arith in
     subst (λ n. EndsDone d0 s r n t.handle u.handle id source) one (done d w s r k leaf t u source id (record {
       valid = valid;
       can = can;
+      plays = plays;
       accepted = accepted;
       all = subst (λ (n : ℕ). all_granted d0 (turns r s n) ≡ true) (sym one) all;
     }))

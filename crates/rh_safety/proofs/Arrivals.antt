@@ -91,11 +91,12 @@ pub record Began (d : Desk) (h : ℕ) (l : Letter) (after : Desk) : Type 0 where
   pub anchor : ℕ
   pub address : ℕ
   pub bytes : List ℕ
+  pub raw : Bool
   pub free_anchor : d.block h anchor ≡ None
   pub free_address : d.heap h address ≡ None
   pub size : d.buf h ≤ length bytes
   pub few : how_many is_going (d.taking h) < d.most
-  pub seen : after ≡ begun d h anchor address bytes l
+  pub seen : after ≡ begun d h anchor address bytes l raw
 
 pub began_good : {o : Offered} {e : ℕ → ℕ → Bool} {d : Desk} (h : ℕ) (l : Letter) → Good o e d → Read o d h l →
     l.kind ≡ DataSave → (after : Desk) → Began d h l after → Good o e after
@@ -115,6 +116,7 @@ began_good {o} {e} {d} h l g rd kind after b =
       buffer = address;
       count = 0;
       fetch = d.next_ref;
+      raw = b.raw;
     } in
     let new : ℕ → List In = put d.taking h (one_more d.most is_going (d.taking h) (Fetching t)) in
     let of = ok.offers.some kind in
@@ -312,27 +314,31 @@ beside_growing : {o : Offered} {e : ℕ → ℕ → Bool} {d : Desk} (h : ℕ) (
     in_anchor w ≢ in_anchor u
 beside_growing h w i is un u q y ne eq = ne (sym (i.ins.documents h u w q y is un eq))
 
+-- a transmit whose bytes a record takes
+pub record Takes (o : Offered) (d : Desk) (h : ℕ) (t : Taking) (l : Letter) : Type 0 where
+  pub carries : Carries o l t (d.heap h) (d.buf h)
+  pub quiet : Quiet d h t.id
+  pub below : l.me < d.next_ref
+  pub apart : NotTheLoad d.scrap l.me
+  pub handle : h < d.next_handle
+  pub level : (s : ℕ) (x : Sending) → Has (Open x) (d.sending s) → l.me ≡ x.last → h ≡ x.recipient →
+      (t.id ≡ x.id) × (t.sender ≡ s) × (x.count ≡ t.count + l.amount)
+
 module _ {o : Offered} {e : ℕ → ℕ → Bool} {d : Desk} (h : ℕ) (t : Taking) (l : Letter) (g : Good o e d)
-    (rd : Read o d h l) (kind : l.kind ≡ RamTransmit) (is : Has (Fetching t) (d.taking h)) (m : Matched d h t l) where
-  carries_here : Carries o l t (d.heap h) (d.buf h)
-  carries_here = (rd.ok.carries h t is).carries kind m.answers m.from
-
-  pub here_quiet : Quiet d h t.id
-  here_quiet = read_quiet h t l (inl is) kind m.from m.answers rd.ok g
-
+    (is : Has (Fetching t) (d.taking h)) (takes : Takes o d h t l) where
   -- the bytes are in the document, and no other fetch could be sent
-  pub stopped_good : Good o e (ended (longer d h t l.amount) h t (In_failed t.id t.anchor (t.count + l.amount)))
-  stopped_good =
-      let w = grown {e = e} h t l g.inv is carries_here in
-      ended_good (grown_block d h t l.amount) h t (In_failed t.id t.anchor (t.count + l.amount)) (inl is) here_quiet
+  pub stopped_takes : Good o e (ended (longer d h t l.amount) h t (In_failed t.id t.anchor (t.count + l.amount)))
+  stopped_takes =
+      let w = grown {e = e} h t l g.inv is takes.carries in
+      ended_good (grown_block d h t l.amount) h t (In_failed t.id t.anchor (t.count + l.amount)) (inl is) takes.quiet
       (end_of (grown_block d h t l.amount) h t.id t.anchor (t.count + l.amount) (Fetching t) is refl g.inv w.sources
       w.same (λ u. w.begins) (at_most w.begins) (λ u q y ne f. beside_growing h (Fetching t) g.inv is tt u q y ne)) g
 
   -- the bytes are in the document, and the next fetch is sent
-  pub fetched_good : Good o e (fetched (longer d h t l.amount) h t l.amount l.me)
-  fetched_good =
+  pub fetched_takes : Good o e (fetched (longer d h t l.amount) h t l.amount l.me)
+  fetched_takes =
       let i = g.inv in
-      let w = grown {e = e} h t l i is carries_here in
+      let w = grown {e = e} h t l i is takes.carries in
       let u : Taking = record {
         id = t.id;
         sender = t.sender;
@@ -340,6 +346,7 @@ module _ {o : Offered} {e : ℕ → ℕ → Bool} {d : Desk} (h : ℕ) (t : Taki
         buffer = t.buffer;
         count = t.count + l.amount;
         fetch = d.next_ref;
+        raw = t.raw;
       } in
       let new : ℕ → List In = put d.taking h (with_id in_id t.id (Fetching u) (d.taking h)) in
       let b = i.ins.buffer h t (inl is) in
@@ -357,10 +364,10 @@ module _ {o : Offered} {e : ℕ → ℕ → Bool} {d : Desk} (h : ℕ) (t : Taki
         born = id.0;
         above = id.1;
         fresh = refl;
-        old = rd.ok.below.me;
-        apart_load = letter_apart rd (λ k. let z : RamTransmit ≡ DataLoad = sym kind ∙ k in (cc));
+        old = takes.below;
+        apart_load = takes.apart;
         own_load = record_apart h (Fetching t) t.id is refl i.files;
-        handle = rd.handle;
+        handle = takes.handle;
         sources = w.sources;
         same = w.same;
         begins = w.begins;
@@ -371,23 +378,44 @@ module _ {o : Offered} {e : ℕ → ℕ → Bool} {d : Desk} (h : ℕ) (t : Taki
       } in
       record {
         inv = fetch_inv new (grown_block d h t l.amount) h u l.me nf i;
-        pending = fetch_pending new (grown_block d h t l.amount) h u l.me nf i here_quiet
-            (λ s x q c f.
-            let from = (rd.ok.out s x q).owner c in
-            let both = rd.ok.ahead s x q h t is in
-            (sym (both.same_id kind from m.answers c), sym m.from ∙ from, both.ahead kind from m.answers c))
-            g.pending;
+        pending = fetch_pending new (grown_block d h t l.amount) h u l.me nf i takes.quiet takes.level g.pending;
         born = λ j le. g.born j (omega arith);
       }
 
   -- the bytes were the last
-  pub finished_good : l.amount < d.buf h →
+  pub finished_takes : l.amount < d.buf h →
       Good o e (ended (longer d h t l.amount) h t (In_done t.id t.anchor (t.count + l.amount)))
-  finished_good less =
-      let w = grown {e = e} h t l g.inv is carries_here in
-      ended_good (grown_block d h t l.amount) h t (In_done t.id t.anchor (t.count + l.amount)) (inl is) here_quiet
+  finished_takes less =
+      let w = grown {e = e} h t l g.inv is takes.carries in
+      ended_good (grown_block d h t l.amount) h t (In_done t.id t.anchor (t.count + l.amount)) (inl is) takes.quiet
       (done_of (grown_block d h t l.amount) h t.id t.anchor (t.count + l.amount) (Fetching t) is refl g.inv w.sources
       w.same (w.short less) (w.last less) (beside_growing h (Fetching t) g.inv is tt)) g
+
+module _ {o : Offered} {e : ℕ → ℕ → Bool} {d : Desk} (h : ℕ) (t : Taking) (l : Letter) (g : Good o e d)
+    (rd : Read o d h l) (kind : l.kind ≡ RamTransmit) (is : Has (Fetching t) (d.taking h)) (m : Matched d h t l) where
+  -- such a transmit is one that is known
+  takes_here : Takes o d h t l
+  takes_here = record {
+    carries = (rd.ok.carries h t is).carries kind m.answers m.from;
+    quiet = read_quiet h t l (inl is) kind m.from m.answers rd.ok g;
+    below = rd.ok.below.me;
+    apart = letter_apart rd (λ k. let z : RamTransmit ≡ DataLoad = sym kind ∙ k in (cc));
+    handle = rd.handle;
+    level = λ s x q c f.
+        let from = (rd.ok.out s x q).owner c in
+        let both = rd.ok.ahead s x q h t is in
+        (sym (both.same_id kind from m.answers c), sym m.from ∙ from, both.ahead kind from m.answers c);
+  }
+
+  pub stopped_good : Good o e (ended (longer d h t l.amount) h t (In_failed t.id t.anchor (t.count + l.amount)))
+  stopped_good = stopped_takes h t l g is takes_here
+
+  pub fetched_good : Good o e (fetched (longer d h t l.amount) h t l.amount l.me)
+  fetched_good = fetched_takes h t l g is takes_here
+
+  pub finished_good : l.amount < d.buf h →
+      Good o e (ended (longer d h t l.amount) h t (In_done t.id t.anchor (t.count + l.amount)))
+  finished_good less = finished_takes h t l g is takes_here less
 
 -- a Draining record, or one whose fetch is back, fails with the bytes that it has
 pub given_up_good : {o : Offered} {e : ℕ → ℕ → Bool} {d : Desk} (h : ℕ) (t : Taking) → Good o e d →
@@ -454,11 +482,18 @@ unasked_good {o} {e} {d} h q is g =
     (end_of d.block h q.id q.anchor 0 (Asking q) is refl g.inv (λ s x p. refl) (λ r w p ne u. refl) (λ u.
     g.inv.ins.good h (Asking q) is tt) (g.inv.ins.counted h (Asking q) is) (λ u p y ne f. beside_growing h (Asking q) g.inv is tt u p y ne)) g
 
+-- a DataSaveAck that a record answers: each record that sent it is of one transfer with that
+pub record Files_for (d : Desk) (h : ℕ) (l : Letter) (x : Sending) : Type 0 where
+  pub below : l.me < d.next_ref
+  pub apart : NotTheLoad d.scrap l.me
+  pub handle : h < d.next_handle
+  pub asked : (r : ℕ) (q : Asked) → Has (Asking q) (d.taking r) → l.me ≡ q.ack → q.id ≡ x.id
+
 -- the source becomes the scrap file
-pub filed_good : {o : Offered} {e : ℕ → ℕ → Bool} {d : Desk} (h : ℕ) (l : Letter) (x : Sending) (bytes : List ℕ) →
-    Good o e d → Read o d h l → l.kind ≡ DataSaveAck → Has (Open x) (d.sending h) → l.answers ≡ x.id →
-    d.block h x.anchor ≡ Some bytes → Good o e (filed d h l x bytes)
-filed_good {o} {e} {d} h l x bytes g rd kind is answers there =
+pub filed_for : {o : Offered} {e : ℕ → ℕ → Bool} {d : Desk} (h : ℕ) (l : Letter) (x : Sending) (bytes : List ℕ) →
+    Good o e d → Files_for d h l x → Has (Open x) (d.sending h) → d.block h x.anchor ≡ Some bytes →
+    Good o e (filed d h l x bytes)
+filed_for {o} {e} {d} h l x bytes g ff is there =
     let i = g.inv in
     let w = i.outs.source h x is in
     let eq : bytes ≡ w.all = same_value (d.block h x.anchor) there w.there in
@@ -494,9 +529,9 @@ filed_good {o} {e} {d} h l x bytes g rd kind is answers there =
       fresh = refl;
       from = refl;
       not_fetch = λ q. absurd (let z : DataLoad ≡ RamFetch = q in (cc));
-      old = rd.ok.below.me;
-      apart_load = letter_apart rd (λ k. let z : DataSaveAck ≡ DataLoad = sym kind ∙ k in (cc));
-      handle = rd.handle;
+      old = ff.below;
+      apart_load = ff.apart;
+      handle = ff.handle;
       offers = record { some = λ q. absurd (let z : DataLoad ≡ DataSave = q in (cc)) };
       carries = λ b u k. absurd (let z : DataLoad ≡ RamTransmit = k in (cc));
       older = λ z q ne b u act k. absurd (let z : DataLoad ≡ RamTransmit = k in (cc));
@@ -536,8 +571,8 @@ filed_good {o} {e} {d} h l x bytes g rd kind is answers there =
                 elim (sent_knows d1 h m refl n k) [
                   | inl old ↦ absurd (let z = (i.letters.below n old).me in omega arith)
                   | inr now ↦
-                      let names = (rd.ok.ack r q u).names kind (ap (λ (j : Letter). j.answers) (sym now) ∙ b) in
-                      ap o (sym names ∙ answers) ∙ w.offered ∙ ap (λ (j : List ℕ). Option.Some j) (sym eq ∙ sym same)
+                      let names = ff.asked r q u (ap (λ (j : Letter). j.answers) (sym now) ∙ b) in
+                      ap o names ∙ w.offered ∙ ap (λ (j : List ℕ). Option.Some j) (sym eq ∙ sym same)
                 ];
           };
           ack_below = step1.loads.ack_below;
@@ -545,7 +580,7 @@ filed_good {o} {e} {d} h l x bytes g rd kind is answers there =
               (let z : Option.Some (record { load = d.next_ref; bytes = bytes }) ≡ Some f = s in ap (λ (j : Scrap).
               j.load) (sym (some_is z))) in omega arith;
         };
-        files = filed_new d.queue m (record { load = d.next_ref; bytes = bytes }) (sent_knows d1 h m refl) refl refl rd.ok.below.me
+        files = filed_new d.queue m (record { load = d.next_ref; bytes = bytes }) (sent_knows d1 h m refl) refl refl ff.below
             (λ n k. (i.letters.below n k).me) (λ n k. (i.letters.below n k).answers) (λ r v has. i.order.in_below r v has);
         few = step1.few;
         order = step1.order;
@@ -559,6 +594,18 @@ filed_good {o} {e} {d} h l x bytes g rd kind is answers there =
   where
     some_is : {a b : Scrap} → Option.Some a ≡ Some b → a ≡ b
     some_is q = cc
+
+-- so it is for one that is known
+pub filed_good : {o : Offered} {e : ℕ → ℕ → Bool} {d : Desk} (h : ℕ) (l : Letter) (x : Sending) (bytes : List ℕ) →
+    Good o e d → Read o d h l → l.kind ≡ DataSaveAck → Has (Open x) (d.sending h) → l.answers ≡ x.id →
+    d.block h x.anchor ≡ Some bytes → Good o e (filed d h l x bytes)
+filed_good h l x bytes g rd kind is answers there =
+    filed_for h l x bytes g (record {
+      below = rd.ok.below.me;
+      apart = letter_apart rd (λ k. let z : DataSaveAck ≡ DataLoad = sym kind ∙ k in (cc));
+      handle = rd.handle;
+      asked = λ r q u b. sym ((rd.ok.ack r q u).names kind b) ∙ answers;
+    }) is there
 
 -- all of the source was loaded
 pub loaded_good : {o : Offered} {e : ℕ → ℕ → Bool} {d : Desk} (h : ℕ) (x : Sending) (bytes : List ℕ) → Good o e d →
@@ -577,7 +624,8 @@ loaded_good {o} {e} {d} h x bytes g is there =
 
 -- the file is the document
 module _ {o : Offered} {e : ℕ → ℕ → Bool} {d : Desk} (h : ℕ) (l : Letter) (q : Asked) (g : Good o e d)
-    (rd : Read o d h l) (is : Has (Asking q) (d.taking h)) (bytes : List ℕ) (of : o q.id ≡ Some bytes) where
+    (me : l.me < d.next_ref) (handle : h < d.next_handle) (is : Has (Asking q) (d.taking h)) (bytes : List ℕ)
+    (of : o q.id ≡ Some bytes) where
   abbrev with_file : ℕ → ℕ → Option (List ℕ)
   with_file = put d.block h (put (d.block h) q.anchor (Some (bytes_of (d.block h q.anchor) ++ bytes)))
 
@@ -599,8 +647,6 @@ module _ {o : Offered} {e : ℕ → ℕ → Bool} {d : Desk} (h : ℕ) (l : Lett
 
   pub told_good : Good o e (told (copied d h q bytes) h l q (length bytes))
   told_good =
-      let me = rd.ok.below.me in
-      let handle = rd.handle in
       let g1 = lost_good (asked_over with_file h q (In_done q.id q.anchor (length bytes)) is
       (done_of with_file h q.id q.anchor (length bytes) (Asking q) is refl g.inv file_sources file_same
       (record { all = bytes; offered = of; there = file_there }) (record { all = bytes; offered = of; whole = refl })

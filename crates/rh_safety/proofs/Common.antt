@@ -74,7 +74,6 @@ pub use Rattle.rh_safety.proofs.Ends.{Offers, Open, Out, Out_done, Out_failed, P
 pub use Rattle.rh_safety.proofs.Ends.{is_going, is_growing, one_more, out_id, put, with_id, without_first}
 pub use Rattle.rh_safety.proofs.Invariant.{Begins, Counted, Counts, Good, HasBuffer, Inv, IsGood, IsLive, IsWaiting, Knows, LetterCarries, LetterIn, LiveFile}
 pub use Rattle.rh_safety.proofs.Invariant.{Offered, Order, PendingAt, Unread, Untouched, kept, known_by, latest, queued, rests, waits}
-pub use Rattle.rh_safety.proofs.Keeps.{Keeps, seen_good}
 pub use Rattle.rh_safety.proofs.SeenFrames.{Fits, HaveOwnSeats, bind, done, instead_of, is_found, test, the_task}
 pub use Rattle.rh_safety.proofs.SeenTasks.{Same, block_view, buffer_view, field_is, ins_view, live_of, outs_view, same_desk, slot_at, slot_is}
 pub use Rattle.rh_safety.proofs.Sight.{sent, still_held, would_answer}

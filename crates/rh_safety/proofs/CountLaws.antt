@@ -10,6 +10,8 @@ use Rattle.rh_safety.specs.Polls.{CountsFit}
 use Rattle.rh_safety.proofs.RecordLaws.{recorded}
 use Rattle.rh_safety.proofs.SeenDesks.{fits}
 use Rattle.rh_safety.proofs.SeenDocuments.{buffer_is}
+use Rattle.rh_safety.specs.RawIds.{Gave}
+use Rattle.rh_safety.proofs.Masks.{masked}
 use Rattle.rh_safety.proofs.SeenLaws.{block_is}
 
 -- one member is no larger than all
@@ -45,9 +47,9 @@ slot_within d h t is at =
     let one : task_pages t ≤ total task_pages d.tasks = one_of_all task_pages (λ (y : Task). y.handle == h) d.tasks t at in
     omega (arith, is.pages, is.pool, one)
 
-pub counts_fit : {o : Offered} {e : ℕ → ℕ → Bool} (d : Desk) → IsDesk d → Good o e (view d) → CountsFit d
-counts_fit d is g h t f n at holds less =
-    let r = recorded d g h t at in
+pub counts_fit : {o : Offered} {e : ℕ → ℕ → Bool} (R : Gave) (d : Desk) → IsDesk d → Good o e (masked R (view d)) → CountsFit d
+counts_fit R d is g h t f n at holds less =
+    let r = recorded R d g h t at in
     let document = r.fetching f holds in
     let buffer = r.rooms f (inl holds) in
     let in_flex : length document.bytes ≤ total weight t.slot.blocks = flex_within t.slot.blocks f.anchor document.bytes

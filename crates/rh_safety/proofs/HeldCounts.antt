@@ -7,7 +7,10 @@ use Rattle.rh_defs.specs.declared.transfer.Incoming.TheVariants as incoming
 use Rattle.rh_safety.specs.Offered.{bytes_of_block, offered}
 use Rattle.rh_safety.specs.Held.{document_of, held_of}
 use Rattle.rh_safety.specs.Counts.{counted_in, AlwaysCounts, CountsHeld, CountsFile, CountsOffered}
-use Rattle.rh_safety.proofs.SeenLaws.{block_is, good_after}
+use Rattle.rh_safety.specs.RawIds.{Gave, is_raw_id}
+use Rattle.rh_safety.proofs.Masks.{masked}
+use Rattle.rh_safety.proofs.Strangers.{counts_same}
+use Rattle.rh_safety.proofs.SeenLaws.{block_is, stands_after}
 
 -- a front of n bytes, of a file that has so many
 front_counts : (n : ℕ) (all got : List ℕ) → n ≤ length all → Option.Some (take n all) ≡ Some got → length got ≡ n
@@ -33,7 +36,7 @@ record_counts o (incoming.Failed i a k) bytes got g c q = front_counts k g.all g
 record_counts o (incoming.Done i a k) bytes got g c q =
     whole_counts (o i) k g.all c.all got g.offered c.offered c.whole (sym g.there ∙ q)
 
-untouched : (e : ℕ → Bool) (w : Incoming) → e (in_id w) ≡ false → Untouched e w
+pub untouched : (e : ℕ → Bool) (w : Incoming) → e (in_id w) ≡ false → Untouched e w
 untouched e (incoming.Fetching f) q = tt
 untouched e (incoming.Draining f) q = q
 untouched e (incoming.Asking a) q = tt
@@ -41,16 +44,16 @@ untouched e (incoming.Failed i a k) q = q
 untouched e (incoming.Done i a k) q = q
 
 -- what is held is the document of the record, to which no edit came
-record IsShown (t : Task) (w : Incoming) (edited : Bool) (got : List ℕ) : Type 0 where
-  clean : edited ≡ false
-  there : bytes_of_block t.slot (in_anchor w) ≡ Some got
+pub record IsShown (t : Task) (w : Incoming) (edited : Bool) (got : List ℕ) : Type 0 where
+  pub clean : edited ≡ false
+  pub there : bytes_of_block t.slot (in_anchor w) ≡ Some got
 
-shown_by : (t : Task) (w : Incoming) (edited : Bool) (got : List ℕ) → document_of t edited (Some w) ≡ Some got →
+pub shown_by : (t : Task) (w : Incoming) (edited : Bool) (got : List ℕ) → document_of t edited (Some w) ≡ Some got →
     IsShown t w edited got
 shown_by t w true got q = absurd (let z : None ≡ Some got = q in cc)
 shown_by t w false got q = record { clean = refl; there = q }
 
-module _ {o : Offered} {e : ℕ → ℕ → Bool} (d : Desk) (g : Good o e (view d)) (h : ℕ) (t : Task) (w : Incoming)
+module _ {o : Offered} {e : ℕ → ℕ → Bool} (R : Gave) (d : Desk) (g : Good o e (masked R (view d))) (h : ℕ) (t : Task) (w : Incoming)
     (at : task_at h d ≡ Some t) where
   seen : Has w t.taking → Has w ((view d).taking h)
   seen has = subst (λ (y : List Incoming). Has w y) (sym (field_is (λ y. y.taking) [] h d.tasks t at)) has
@@ -75,7 +78,8 @@ module _ {o : Offered} {e : ℕ → ℕ → Bool} (d : Desk) (g : Good o e (view
 
 pub always_counts_held : AlwaysCounts CountsHeld
 always_counts_held pool handle ref files cs from ranged id h got t w q at found =
-    held_counts (after (start_with pool files handle ref) cs) (good_after pool handle ref files cs from ranged) h t w at
+    held_counts (is_raw_id (start_with pool files handle ref) cs) (after (start_with pool files handle ref) cs)
+    (stands_after pool handle ref files cs from ranged).good h t w at
     id got q found
 
 -- ---- beside what was offered
@@ -89,6 +93,8 @@ file_counts d cs (incoming.Done i a k) c =
     let whole = c.whole in record { file = c.all; is = c.offered; most = omega arith; all = λ yes. whole }
 
 pub always_counts_offered : AlwaysCounts CountsOffered
-always_counts_offered pool handle ref files cs from ranged h t w at has =
+always_counts_offered pool handle ref files cs from ranged h t w at has mine =
     let d = start_with pool files handle ref in
-    file_counts d cs w (offered_counts (after d cs) (good_after pool handle ref files cs from ranged) h t w at has)
+    let s = stands_after pool handle ref files cs from ranged in
+    file_counts d cs w (counts_same s.offers (offered d cs) w (sym (s.same (in_id w) mine))
+    (offered_counts (is_raw_id d cs) (after d cs) s.good h t w at has))

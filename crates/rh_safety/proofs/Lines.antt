@@ -12,14 +12,17 @@ use Rattle.hex.proofs.HexLemmas.{decode_of-ok}
 use Rattle.rh_defs.specs.declared.fault.LineFault.{LineFault}
 use Rattle.rh_defs.specs.declared.fault.LineFault.TheVariants.{TooLong, Unknown, Count, Word}
 use Rattle.rh_defs.specs.Forms.{is_delta, is_decimal, is_leaf, number_of, last_ref}
-use Rattle.rh_defs.specs.Grammar.{Form, Name, Leaf, Number, Ref, Delta, Address, Bytes, Choice, Maybe, Values, Maker, GrammarRow, Spelling, spelled_by, rows}
+use Rattle.rh_defs.specs.Grammar.{Form, Name, Leaf, Number, Ref, Delta, Address, Bytes, Choice, Choices, Data, Maybe, Values, Maker, GrammarRow, Spelling}
+use Rattle.rh_defs.specs.Grammar.{spelled_by, rows}
 use Rattle.rh_defs.specs.Range.{is_of, all_of, can_be_read, all_in_range}
 use Rattle.rh_defs.proofs.GrammarLaws.{Spells, RowSpells, AllSpell, rows-spell}
 use Rattle.rh_defs.specs.Script.{commands_in, lines_desk, meaning_desk}
 use Rattle.rh_defs.specs.Chain.{◌>>=◌}
 use Rattle.rh_defs.specs.Line.{Meaning, longest_line, words_of, nth_word, name_at, number_at, delta_at, signed, is_negative, unsigned, address_at}
 use Rattle.rh_defs.specs.Line.{leaf_at}
-use Rattle.rh_defs.specs.Line.{choice_at, bytes_read_at, value_at, command_from, is_count, follow, grammar_row, command_by, command_of, is_skipped, line_means}
+use Rattle.rh_defs.specs.OtherBodies.{is_whole}
+use Rattle.rh_defs.specs.Line.{choice_at, choices_at, data_read_at, bytes_read_at, value_at, command_from, is_count, follow, grammar_row, command_by}
+use Rattle.rh_defs.specs.Line.{command_of, is_skipped, line_means}
 
 -- ---- what holds of a meaning, where there is one
 
@@ -119,6 +122,18 @@ bytes_by words n false o q s = rw q tt
 bytes_means : (words : List (List ℕ)) (n : ℕ) → Means (Passes has_byte) (bytes_read_at words n)
 bytes_means words n = bytes_by words n (has_byte (nth_word words n)) (result_ok (decode_of (nth_word words n))) refl refl
 
+-- whole words of at least one byte
+whole_means : (b : Bool) (bytes : List ℕ) (n : ℕ) → is_whole bytes ≡ b → has_byte bytes ≡ true →
+    Means (Passes (is_of Data)) (if b then Ok bytes else Err (Word n))
+whole_means true bytes n e q = rw (q, e) refl
+whole_means false bytes n e q = tt
+
+data_means : (words : List (List ℕ)) (n : ℕ) → Means (Passes (is_of Data)) (data_read_at words n)
+unfolding data_read_at
+data_means words n =
+    then_means (Passes has_byte) (Passes (is_of Data)) (bytes_read_at words n) _ (bytes_means words n)
+    (λ bytes q. whole_means (is_whole bytes) bytes n refl q)
+
 -- ---- forms
 
 value_means : (form : Form) (words : List (List ℕ)) (n : ℕ) → Means (Passes (is_of form)) (value_at form words n)
@@ -130,6 +145,9 @@ value_means Ref words n = means_also _ (Passes (nat_le 1)) (number_at words n 1 
 value_means Delta words n = delta_means words n
 value_means Address words n = means_also Any _ (address_at words n) (λ x u. refl) (any_means (address_at words n))
 value_means Bytes words n = bytes_means words n
+value_means Data words n = data_means words n
+value_means (Choices first second third) words n =
+    means_also Any _ (choices_at words n first second third) (λ x u. refl) (any_means (choices_at words n first second third))
 value_means (Choice first second) words n =
     means_also Any _ (choice_at words n first second) (λ x u. refl) (any_means (choice_at words n first second))
 value_means (Maybe form) words n =

@@ -197,7 +197,7 @@ queued_in-one l there post is =
       ];
     }
 
-put_down-one : (h : ℕ) (post : Post) → OneEach post → OneEach (put_down h post)
+pub put_down-one : (h : ℕ) (post : Post) → OneEach post → OneEach (put_down h post)
 put_down-one h post is = no_more-one (record { fewer = λ ref. omega (arith, with_held-refs ref h None post.seats); next = refl }) is
 
 pub posted-one : (l : Letter) (there : Heap × ℕ) (post : Post) → OneEach post → OneEach (posted l there post)

@@ -8,7 +8,15 @@ use Rattle.rh_defs.specs.declared.refusal.Refusal.TheVariants.{NameInUse}
 use Rattle.rh_defs.specs.declared.command.Command.TheVariants as command
 use Rattle.rh_safety.specs.Names.{HaveOwnNames}
 use Rattle.rh_safety.proofs.SeenBlocks.{not_refused}
-use Rattle.rh_safety.proofs.SeenKeys.{keys_of, SameKeys, slot_keys, outs_keys, ins_keys, sent_keys}
+use Rattle.rh_defs.specs.declared.raw_command.RawCommand.{RawCommand}
+use Rattle.rh_defs.specs.declared.raw_command.RawCommand.TheVariants as raw
+use Rattle.rh_defs.specs.Commands.{with_released}
+use Rattle.rh_defs.specs.IncomingEvents.{without_buffer}
+use Rattle.rh_defs.specs.Places.{bytes_held, written_held}
+use Rattle.rh_defs.specs.RawCommands.{ack, after_answer, send, spool, transfer}
+use Rattle.rh_defs.specs.RawTasks.{is_raw}
+use Rattle.rh_safety.proofs.Common.{None, Taking, either, with_task}
+use Rattle.rh_safety.proofs.SeenKeys.{Key, keys_edit, keys_of, SameKeys, slot_keys, outs_keys, ins_keys, sent_keys}
 use Rattle.rh_safety.proofs.Alternations.{taken_keys, delivered_keys}
 use Rattle.rh_defs.proofs.Changes.{Changed, IsOnMemory, in_slot}
 use Rattle.rh_defs.proofs.Steps.{granted-on}
@@ -16,33 +24,33 @@ use Rattle.rh_defs.proofs.Steps.{granted-on}
 -- ---- keys of different names
 
 -- no key has the name
-abbrev Lacks : List ℕ → List (ℕ × List ℕ) → Type 0
+abbrev Lacks : List ℕ → List Key → Type 0
 Lacks name [] = Unit {0}
 Lacks name (k ∷ keys) = (k.1 ≢ name) × Lacks name keys
 
 -- no two keys have one name
-abbrev Differ : List (ℕ × List ℕ) → Type 0
+abbrev Differ : List Key → Type 0
 Differ [] = Unit {0}
 Differ (k ∷ keys) = Lacks k.1 keys × Differ keys
 
-lacks_it : (name : List ℕ) (keys : List (ℕ × List ℕ)) (k : ℕ × List ℕ) → Lacks name keys → Has k keys → k.1 ≢ name
+lacks_it : (name : List ℕ) (keys : List Key) (k : Key) → Lacks name keys → Has k keys → k.1 ≢ name
 lacks_it name [] k all has = absurd has
-lacks_it name (y ∷ keys) k all (inl same) = subst (λ (z : ℕ × List ℕ). z.1 ≢ name) same all.0
+lacks_it name (y ∷ keys) k all (inl same) = subst (λ (z : Key). z.1 ≢ name) same all.0
 lacks_it name (y ∷ keys) k all (inr has) = lacks_it name keys k all.1 has
 
 -- keys with one name are one
-one_key : (keys : List (ℕ × List ℕ)) (a b : ℕ × List ℕ) → Differ keys → Has a keys → Has b keys → a.1 ≡ b.1 → a.0 ≡ b.0
+one_key : (keys : List Key) (a b : Key) → Differ keys → Has a keys → Has b keys → a.1 ≡ b.1 → a.0 ≡ b.0
 one_key [] a b all in_a in_b same = absurd in_a
-one_key (k ∷ keys) a b all (inl p) (inl q) same = ap (λ (z : ℕ × List ℕ). z.0) (sym p ∙ q)
+one_key (k ∷ keys) a b all (inl p) (inl q) same = ap (λ (z : Key). z.0) (sym p ∙ q)
 one_key (k ∷ keys) a b all (inl p) (inr q) same =
-    absurd (lacks_it k.1 keys b all.0 q (sym same ∙ ap (λ (z : ℕ × List ℕ). z.1) (sym p)))
+    absurd (lacks_it k.1 keys b all.0 q (sym same ∙ ap (λ (z : Key). z.1) (sym p)))
 one_key (k ∷ keys) a b all (inr p) (inl q) same =
-    absurd (lacks_it k.1 keys a all.0 p (same ∙ ap (λ (z : ℕ × List ℕ). z.1) (sym q)))
+    absurd (lacks_it k.1 keys a all.0 p (same ∙ ap (λ (z : Key). z.1) (sym q)))
 one_key (k ∷ keys) a b all (inr p) (inr q) same = one_key keys a b all.1 p q same
 
 -- ---- one more task, and one fewer
 
-lacks_more : (name : List ℕ) (k : ℕ × List ℕ) (ts : List Task) (t : Task) → Lacks name (keys_of ts) → t.name ≢ name →
+lacks_more : (name : List ℕ) (k : Key) (ts : List Task) (t : Task) → Lacks name (keys_of ts) → t.name ≢ name →
     Lacks name (keys_of (ts ++ t ∷ []))
 lacks_more name k [] t all ne = (ne, tt)
 lacks_more name k (y ∷ ts) t all ne = (all.0, lacks_more name k ts t all.1 ne)
@@ -51,7 +59,7 @@ lacks_more name k (y ∷ ts) t all ne = (all.0, lacks_more name k ts t all.1 ne)
 differ_more : (ts : List Task) (t : Task) → Differ (keys_of ts) → Lacks t.name (keys_of ts) → Differ (keys_of (ts ++ t ∷ []))
 differ_more [] t all none = (tt, tt)
 differ_more (y ∷ ts) t all none = (
-  lacks_more y.name (t.handle, t.name) ts t all.0 (λ e. none.0 (sym e)),
+  lacks_more y.name (t.handle, t.name, t.manner) ts t all.0 (λ e. none.0 (sym e)),
   differ_more ts t all.1 none.1,
 )
 
@@ -88,6 +96,12 @@ differ_less stays (t ∷ ts) all = elim (stays t) as (λ b. Differ (keys_of (if 
 abbrev AreApart : Desk → Type 0
 AreApart d = Differ (keys_of d.tasks)
 
+-- whether a command starts or ends a task
+abbrev pub starts_or_ends : Command → Bool
+starts_or_ends (command.Task name buffer manner) = true
+starts_or_ends (command.Kill name) = true
+starts_or_ends c = false
+
 module _ (d : Desk) where
   -- the tasks keep their names
   abbrev Stays : Answer → Type 0
@@ -107,22 +121,35 @@ module _ (d : Desk) where
   unfolding save
   save_stays name k to leaf = bind Stays _ _ (instead_of d) no (λ t q. bind Stays _ _ (instead_of d) no (λ b e.
       test Stays _ _ (instead_of d) no (λ u v. bind Stays _ _ (instead_of d) no (λ r f. bind Stays _ _ (instead_of d) no
-      (λ sent w. done Stays _ (instead_of d) (outs_keys t.handle _ sent ∙ sent_keys d sent _ w))))))
+      (λ sent w. test Stays _ _ (instead_of d) no (λ m n. done Stays _ (instead_of d)
+      (outs_keys t.handle _ sent ∙ sent_keys d sent _ w)))))))
+
+  -- the scrap file kept or given up after a message
+  answer_keys : (sent : Desk) → SameKeys sent (after_answer sent)
+  unfolding with_delivered
+  answer_keys sent = refl
 
   repeat_stays : (name : List ℕ) → Stays (step d (command.Repeat name))
   unfolding repeat
   repeat_stays name = bind Stays _ _ (instead_of d) no (λ t q. bind Stays _ _ (instead_of d) no (λ last e.
-      bind Stays _ _ (instead_of d) no (λ sent w. done Stays _ (instead_of d) (sent_keys d sent _ w))))
+      bind Stays _ _ (instead_of d) no (λ sent w. done Stays _ (instead_of d) (either (λ (y : Desk). SameKeys d y) (is_raw t.manner)
+      (after_answer sent) sent (λ raw. answer_keys sent ∙ sent_keys d sent _ w) (λ plays. sent_keys d sent _ w)))))
 
   poll_stays : (name : List ℕ) → Stays (step d (command.Poll name))
   unfolding poll
   poll_stays name = bind Stays (named name d) _ (instead_of d) no (λ t q. done Stays _ (instead_of d)
       (let p = post_poll t.handle d.post in taken_keys (with_delivered p.0 d) t p.1 ∙ delivered_keys p.0 d))
 
+  -- a buffer released, where there is one
+  released_keys : (h : ℕ) (o : Option Taking) → SameKeys d (with_released h o d)
+  unfolding with_task
+  released_keys h None = refl
+  released_keys h (Some f) = keys_edit h (λ t. record t { slot = without_buffer f.buffer t.slot }) (λ t. refl) (λ t. refl) (λ t. refl) d.tasks
+
   cancel_in_stays : (name : List ℕ) (id : Option ℕ) → Stays (step d (command.CancelIn name id))
   unfolding cancel_in
   cancel_in_stays name id = bind Stays _ _ (instead_of d) no (λ t q. bind Stays _ _ (instead_of d) no (λ records w.
-      done Stays _ (instead_of d) (ins_keys t.handle (λ _. records) d)))
+      done Stays _ (instead_of d) (ins_keys t.handle (λ _. records) _ ∙ released_keys t.handle _)))
 
   cancel_out_stays : (name : List ℕ) (id : Option ℕ) → Stays (step d (command.CancelOut name id))
   unfolding cancel_out
@@ -133,6 +160,53 @@ module _ (d : Desk) where
   unfolding make
   make_stays most = test Stays _ _ (instead_of d) no (λ u v. test Stays _ _ (instead_of d) no (λ x y. done Stays _
       (instead_of d) refl))
+
+  -- ---- tasks with code of their own
+
+  send_stays : (name : List ℕ) (recorded : Bool) (h ref a : ℕ) (bytes : Option (List ℕ)) → Stays (step d (command.Raw (raw.Send name recorded h ref a bytes)))
+  unfolding send
+  send_stays name recorded h ref a bytes = bind Stays _ _ (instead_of d) no (λ t q. bind Stays _ _ (instead_of d) no (λ sent w.
+      test Stays _ _ (instead_of d) no (λ u v. test Stays _ _ (instead_of d) no (λ m n. done Stays _ (instead_of d)
+      (answer_keys sent ∙ sent_keys d sent _ w)))))
+
+  spool_stays : (name : List ℕ) (k h ref : ℕ) → Stays (step d (command.Raw (raw.Spool name k h ref)))
+  unfolding spool
+  spool_stays name k h ref = bind Stays _ _ (instead_of d) no (λ t q. bind Stays _ _ (instead_of d) no (λ b e.
+      test Stays _ _ (instead_of d) no (λ u1 v1. test Stays _ _ (instead_of d) no (λ u2 v2. test Stays _ _ (instead_of d) no (λ u3 v3.
+      bind Stays _ _ (instead_of d) no (λ sent w. test Stays _ _ (instead_of d) no (λ u4 v4. test Stays _ _ (instead_of d) no (λ m n.
+      done Stays _ (instead_of d) (sent_keys _ sent _ w)))))))))
+
+  ack_stays : (name : List ℕ) → Stays (step d (command.Raw (raw.Ack name)))
+  unfolding ack
+  ack_stays name = bind Stays _ _ (instead_of d) no (λ t q. test Stays _ _ (instead_of d) no (λ m n. done Stays _ (instead_of d)
+      (delivered_keys _ d)))
+
+  transfer_stays : (name : List ℕ) (x h y n : ℕ) → Stays (step d (command.Raw (raw.Transfer name x h y n)))
+  unfolding transfer with_task
+  transfer_stays name x h y n = bind Stays _ _ (instead_of d) no (λ t q. test Stays _ _ (instead_of d) no (λ u v.
+      bind Stays _ _ (instead_of d) no (λ r e. test Stays _ _ (instead_of d) no (λ m k. done Stays _ (instead_of d)
+      (keys_edit r.handle (λ r. record r { slot = written_held y (bytes_held x n t.slot) r.slot }) (λ r. refl) (λ r. refl) (λ r. refl) d.tasks)))))
+
+  raw_stays : (c : RawCommand) → Stays (step d (command.Raw c))
+  raw_stays (raw.Send name recorded h ref a bytes) = send_stays name recorded h ref a bytes
+  raw_stays (raw.Write name x bytes) = memory_stays (command.Raw (raw.Write name x bytes)) refl
+  raw_stays (raw.Transfer name x h y n) = transfer_stays name x h y n
+  raw_stays (raw.Ack name) = ack_stays name
+  raw_stays (raw.Spool name k h ref) = spool_stays name k h ref
+  raw_stays (raw.Scrap name k) = memory_stays (command.Raw (raw.Scrap name k)) refl
+
+  -- every command that starts and ends no task
+  pub stays : (c : Command) → starts_or_ends c ≡ false → Stays (step d c)
+  stays (command.Task name buffer manner) q = absurd (let z : Bool.true ≡ false = q in (cc))
+  stays (command.Kill name) q = absurd (let z : Bool.true ≡ false = q in (cc))
+  stays (command.Save name k to leaf) q = save_stays name k to leaf
+  stays (command.Poll name) q = poll_stays name
+  stays (command.CancelIn name id) q = cancel_in_stays name id
+  stays (command.CancelOut name id) q = cancel_out_stays name id
+  stays (command.Repeat name) q = repeat_stays name
+  stays (command.Make most) q = make_stays most
+  stays (command.Raw c) q = raw_stays c
+  stays c q = memory_stays c tt
 
   -- ---- tasks come and go
 
@@ -157,13 +231,7 @@ module _ (d : Desk) where
   step_apart : (c : Command) → AreApart d → Apart (step d c)
   step_apart (command.Task name buffer manner) all = task_apart name buffer manner all
   step_apart (command.Kill name) all = kill_apart name all
-  step_apart (command.Save name k to leaf) all = same_apart (command.Save name k to leaf) (save_stays name k to leaf) all
-  step_apart (command.Poll name) all = same_apart (command.Poll name) (poll_stays name) all
-  step_apart (command.CancelIn name id) all = same_apart (command.CancelIn name id) (cancel_in_stays name id) all
-  step_apart (command.CancelOut name id) all = same_apart (command.CancelOut name id) (cancel_out_stays name id) all
-  step_apart (command.Repeat name) all = same_apart (command.Repeat name) (repeat_stays name) all
-  step_apart (command.Make most) all = same_apart (command.Make most) (make_stays most) all
-  step_apart c all = same_apart c (memory_stays c tt) all
+  step_apart c all = same_apart c (stays c refl) all
 
 -- ---- every run
 
@@ -171,20 +239,20 @@ after_apart : (d : Desk) (cs : List Command) → AreApart d → AreApart (after 
 after_apart d [] all = all
 after_apart d (c ∷ cs) all = after_apart (step d c).0 cs (step_apart d c all)
 
-key_of : (d : Desk) (h : ℕ) (t : Task) → task_at h d ≡ Some t → Has (t.handle, t.name) (keys_of d.tasks)
+key_of : (d : Desk) (h : ℕ) (t : Task) → task_at h d ≡ Some t → Has (t.handle, t.name, t.manner) (keys_of d.tasks)
 key_of d h t at = has_key d.tasks (first_is (λ (y : Task). y.handle == h) d.tasks t at).0
   where
-    has_key : (ts : List Task) → Has t ts → Has (t.handle, t.name) (keys_of ts)
+    has_key : (ts : List Task) → Has t ts → Has (t.handle, t.name, t.manner) (keys_of ts)
     has_key [] has = absurd has
-    has_key (y ∷ ts) (inl same) = inl (ap (λ (z : Task). (z.handle, z.name)) same)
+    has_key (y ∷ ts) (inl same) = inl (ap (λ (z : Task). (z.handle, z.name, z.manner)) same)
     has_key (y ∷ ts) (inr has) = inr (has_key ts has)
 
 handle_of : (d : Desk) (h : ℕ) (t : Task) → task_at h d ≡ Some t → t.handle ≡ h
 handle_of d h t at = is_equal _ _ (first_is (λ (y : Task). y.handle == h) d.tasks t at).1
 
 own_names : (d : Desk) → AreApart d → HaveOwnNames d
-own_names d all h k t u at_h at_k same = sym (handle_of d h t at_h) ∙ one_key (keys_of d.tasks) (t.handle, t.name)
-    (u.handle, u.name) all (key_of d h t at_h) (key_of d k u at_k) same ∙ handle_of d k u at_k
+own_names d all h k t u at_h at_k same = sym (handle_of d h t at_h) ∙ one_key (keys_of d.tasks) (t.handle, t.name, t.manner)
+    (u.handle, u.name, u.manner) all (key_of d h t at_h) (key_of d k u at_k) same ∙ handle_of d k u at_k
 
 pub always_own_names : Always HaveOwnNames
 always_own_names pool handle ref files cs from ranged =

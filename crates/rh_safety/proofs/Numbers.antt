@@ -9,7 +9,7 @@ use Rattle.rh_safety.proofs.Common.{taking_ended, accept, appended, fetch_more, 
 use Rattle.rh_safety.proofs.Common.{delivered, bounced_to, handled, Answer, start_task, kill, make, save, repeat, poll, poll_taken, cancel_in, cancel_out, step}
 use Rattle.rh_safety.proofs.Common.{after, start_with, Always, OnGrant, granted, granted-then, granted-with, granted-past, or_else-keeps, chosen}
 use Rattle.rh_defs.specs.declared.command.Command.TheVariants as command
-use Rattle.rh_defs.specs.declared.message.Body.TheVariants.{DataSave, DataSaveAck, DataLoad, DataLoadAck, RamFetch, RamTransmit}
+use Rattle.rh_defs.specs.declared.message.Body.TheVariants.{DataSave, DataSaveAck, DataLoad, DataLoadAck, Other, RamFetch, RamTransmit}
 use Rattle.rh_defs.specs.declared.message.Letter.{Letter}
 use Rattle.rh_defs.specs.declared.reply.Outcome.TheVariants as outcome
 use Rattle.rh_defs.specs.declared.reply.Reply.TheVariants as reply
@@ -23,9 +23,15 @@ use Rattle.rh_defs.specs.Post.{first_for}
 use Rattle.rh_defs.specs.Desk.{with_module}
 use Rattle.rh_defs.specs.OutgoingEvents.{refused as failed_by}
 use Rattle.rh_defs.specs.IncomingEvents.{outcome_of_end}
-use Rattle.rh_defs.specs.Commands.{change}
+use Rattle.rh_defs.specs.AnyMessage.{as_read}
+use Rattle.rh_defs.specs.Commands.{change, with_released}
+use Rattle.rh_defs.specs.RawCommands.{ack, after_answer, send, spool, transfer}
+use Rattle.rh_defs.specs.RawTasks.{is_raw}
+use Rattle.rh_defs.specs.Transfer.{received}
+use Rattle.rh_defs.specs.declared.raw_command.RawCommand.TheVariants as raw
+use Rattle.rh_safety.proofs.Common.{Bool, with_taking}
 use Rattle.rh_defs.proofs.Chains.{granted-both}
-use Rattle.rh_safety.proofs.LiveRefs.{OneEach, live_with, own-refs, no_more-one, posted-one, join-one, poll-fewer, death-fewer}
+use Rattle.rh_safety.proofs.LiveRefs.{OneEach, live_with, own-refs, no_more-one, posted-one, put_down-one, join-one, poll-fewer, death-fewer}
 use Rattle.rh_defs.proofs.Changes.{Changed, IsOnMemory, in_areas, in_made, in_module, in_nothing, in_slot}
 use Rattle.rh_defs.proofs.QuestionLaws.{is_quiet}
 use Rattle.rh_defs.proofs.Steps.{granted-on}
@@ -68,7 +74,7 @@ taken_from-ref : (h : ℕ) (o : Option (Parcel × List Parcel)) (post : Post) �
 taken_from-ref h None post = refl
 taken_from-ref h (Some t) post = chosen (λ (x : Post). x.next_ref ≡ post.next_ref) (is_recorded t.0.code) _ _ refl refl
 
-post_poll-ref : (h : ℕ) (post : Post) → (post_poll h post).0.next_ref ≡ post.next_ref
+pub post_poll-ref : (h : ℕ) (post : Post) → (post_poll h post).0.next_ref ≡ post.next_ref
 unfolding post_poll
 post_poll-ref h post =
     let between : Post = bounce_held h (held_by h post.seats) post in
@@ -304,6 +310,7 @@ module _ (d : Desk) (t : Task) where
   delivered-marks m (DataLoadAck file) = perform_send-marks d t _
   delivered-marks m (RamFetch buffer amount) = chosen (Marks d) _ _ _ (ignored-marks d t) (perform_send-marks d t _)
   delivered-marks m (RamTransmit buffer n) = perform_take-marks _
+  delivered-marks m (Other o) = ignored-marks d t
 
   bounced_to-marks : (m : Parcel) (body : Body) → Marks d (bounced_to d t m body)
   unfolding bounced_to
@@ -313,12 +320,17 @@ module _ (d : Desk) (t : Task) where
   bounced_to-marks m (DataLoadAck file) = ignored-marks d t
   bounced_to-marks m (RamFetch buffer amount) = perform_take-marks _
   bounced_to-marks m (RamTransmit buffer n) = fail_sending-marks d t _
+  bounced_to-marks m (Other o) = ignored-marks d t
 
   handled-marks : (m : Parcel) (code : EventCode) → Marks d (handled d t m code)
   unfolding handled
   handled-marks m User = delivered-marks m m.message.body
   handled-marks m Recorded = delivered-marks m m.message.body
   handled-marks m Acknowledge = bounced_to-marks m m.message.body
+
+  -- a task with code of its own does nothing with it
+  received-marks : (m : Parcel) → Marks d (received d t m)
+  received-marks m = chosen (Marks d) (is_raw t.manner) (d, outcome.Taken) _ (quiet (stands refl refl refl same-mail) refl) (handled-marks m m.code)
 
 -- ---- commands
 
@@ -387,17 +399,27 @@ module _ (d : Desk) where
   unfolding save with_task
   save-counts name k to leaf =
       granted-then _ _ λ t e. granted-then _ _ λ b f. granted-past _ _ _ λ full. granted-then _ _ λ r g. granted-with _ (send_letter-one _ d) λ sent one.
-      granted (sent-counts one (stands refl refl refl same-mail))
+      granted-past _ _ _ λ kind. granted (sent-counts one (stands refl refl refl same-mail))
+
+  -- the scrap file kept or given up after a message
+  answer-stands : (sent : Desk) → Stands sent (after_answer sent)
+  unfolding with_delivered
+  answer-stands sent = stands refl refl refl same-mail
 
   repeat-counts : (name : List ℕ) → OnGrant (Counts d) (repeat d name)
   unfolding repeat
   repeat-counts name =
       granted-then _ _ λ t e. granted-then _ _ λ last f. granted-with _ (send_letter-one _ d) λ sent one.
-      granted (sent-counts one (stands refl refl refl same-mail))
+      granted (sent-counts one (chosen (Stands sent) (is_raw t.manner) _ _ (answer-stands sent) (stands refl refl refl same-mail)))
+
+  released-stands : (h : ℕ) (o : Option Taking) (edit : List Incoming → List Incoming) → Stands d (with_taking h edit (with_released h o d))
+  unfolding with_task
+  released-stands h None edit = stands refl refl refl same-mail
+  released-stands h (Some f) edit = stands refl refl refl same-mail
 
   cancel_in-counts : (name : List ℕ) (id : Option ℕ) → OnGrant (Counts d) (cancel_in d name id)
-  unfolding cancel_in with_task
-  cancel_in-counts name id = granted-then _ _ λ t e. granted-then _ _ λ records f. still (stands refl refl refl same-mail) refl refl refl
+  unfolding cancel_in
+  cancel_in-counts name id = granted-then _ _ λ t e. granted-then _ _ λ records f. still (released-stands t.handle _ _) refl refl refl
 
   cancel_out-counts : (name : List ℕ) (id : Option ℕ) → OnGrant (Counts d) (cancel_out d name id)
   unfolding cancel_out with_task
@@ -413,6 +435,31 @@ module _ (d : Desk) where
         areas = one-of d.next_area (d.next_area + 1) refl;
         mail = same-mail;
       })
+
+  -- a message of a task with code of its own
+  send-counts : (name : List ℕ) (recorded : Bool) (h ref a : ℕ) (bytes : List ℕ) → OnGrant (Counts d) (send d name recorded h ref a bytes)
+  unfolding send
+  send-counts name recorded h ref a bytes =
+      granted-then _ _ λ t e. granted-with _ (send_letter-one _ d) λ sent one. granted-past _ _ _ λ kind. granted-past _ _ _ λ given.
+      granted (sent-counts one (answer-stands sent))
+
+  spool-counts : (name : List ℕ) (k h ref : ℕ) → OnGrant (Counts d) (spool d name k h ref)
+  unfolding spool
+  spool-counts name k h ref =
+      granted-then _ _ λ t e. granted-then _ _ λ b f. granted-past _ _ _ λ busy. granted-both _ (any-grant _) λ y u. granted-past _ _ _ λ room.
+      granted-with _ (send_letter-one _ _) λ sent one. granted-past _ _ _ λ kind. granted-past _ _ _ λ given.
+      granted (sent-counts {sent = sent} (record { handle = one.handle; ref = one.ref; area = one.area; mail = one.mail }) (stands refl refl refl same-mail))
+
+  ack-counts : (name : List ℕ) → OnGrant (Counts d) (ack d name)
+  unfolding ack with_delivered
+  ack-counts name =
+      granted-then _ _ λ t e. granted-past _ _ _ λ kind. still (stands refl refl refl (put_down-one t.handle d.post)) refl refl refl
+
+  transfer-counts : (name : List ℕ) (x h y n : ℕ) → OnGrant (Counts d) (transfer d name x h y n)
+  unfolding transfer with_task
+  transfer-counts name x h y n =
+      granted-then _ _ λ t e. granted-past _ _ _ λ shut. granted-then _ _ λ r live. granted-past _ _ _ λ kind.
+      still (stands refl refl refl same-mail) refl refl refl
 
   changed-counts : {c : Command} (a : Answer) → Changed c d a → Counts d a
   changed-counts _ (in_slot name t s is e quiet) = silent-as (slot-stands t.handle s) quiet
@@ -430,10 +477,11 @@ poll_taken-counts : (d e : Desk) (t : Task) (o : Option Parcel) → Stands d e �
 unfolding poll_taken
 poll_taken-counts d e t None s = silent s refl refl refl
 poll_taken-counts d e t (Some m) s =
-    let marks : Marks d (handled e t m m.code) = past s (handled-marks e t m m.code) in record {
-      handles = none-of d.next_handle (handled e t m m.code).0.next_handle marks.handle;
+    let done : Handled = received e t (as_read m) in
+    let marks : Marks d done = past s (received-marks e t (as_read m)) in record {
+      handles = none-of d.next_handle done.0.next_handle marks.handle;
       refs = marks.refs;
-      areas = none-of d.next_area (handled e t m m.code).0.next_area marks.area;
+      areas = none-of d.next_area done.0.next_area marks.area;
       mail = marks.mail;
     }
 
@@ -461,6 +509,12 @@ change-counts d (command.CancelIn name id) = cancel_in-counts d name id
 change-counts d (command.CancelOut name id) = cancel_out-counts d name id
 change-counts d (command.Repeat name) = repeat-counts d name
 change-counts d (command.Make most) = make-counts d most
+change-counts d (command.Raw (raw.Send name recorded h ref a bytes)) = send-counts d name recorded h ref a _
+change-counts d (command.Raw (raw.Spool name k h ref)) = spool-counts d name k h ref
+change-counts d (command.Raw (raw.Ack name)) = ack-counts d name
+change-counts d (command.Raw (raw.Transfer name x h y n)) = transfer-counts d name x h y n
+change-counts d (command.Raw (raw.Write name x bytes)) = memory-counts d (command.Raw (raw.Write name x bytes)) refl
+change-counts d (command.Raw (raw.Scrap name k)) = memory-counts d (command.Raw (raw.Scrap name k)) refl
 change-counts d c = memory-counts d c tt
 
 step-counts : (d : Desk) (c : Command) → Counts d (step d c)

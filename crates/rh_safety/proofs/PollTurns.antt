@@ -18,6 +18,10 @@ use Rattle.rh_safety.proofs.Invariant.{rests}
 use Rattle.rh_safety.proofs.SeenFiles.{seen_live}
 use Rattle.rh_safety.specs.Alternation.{is_refusal, is_refused_poll}
 use Rattle.rh_safety.proofs.Sight as sight
+use Rattle.rh_defs.specs.AnyMessage.{as_read}
+use Rattle.rh_defs.specs.RawTasks.{is_raw}
+use Rattle.rh_safety.proofs.KeptPolls.{known_kind, read_same}
+use Rattle.rh_safety.proofs.Raws.{is_known}
 use Rattle.rh_safety.proofs.Arrivals.{Began}
 use Rattle.rh_safety.proofs.Turns.{first_one}
 use Rattle.rh_safety.proofs.SeenTaking.{IsTaken, lost_queue, picked_by}
@@ -68,10 +72,10 @@ module _ (d : Desk) (t : Task) (p : Post × Option Parcel) (w : IsTaken d t.hand
   left = with_delivered p.0 d
 
   -- the poll of a task that holds nothing, where the post has one message for it
-  pub turn_is : (m : Message) → (view d).held here ≡ None → (view d).queue ≡ m ∷ [] → m.to ≡ here →
+  pub turn_is : (m : Message) → is_known m.letter.kind ≡ true → is_raw t.manner ≡ false → (view d).held here ≡ None → (view d).queue ≡ m ∷ [] → m.to ≡ here →
       Turn d here m (poll_taken left t p.1)
   unfolding poll_taken with_delivered
-  turn_is m none queue to =
+  turn_is m known plays none queue to =
       let back = sight.returned (view d) here ((view d).held here) in
       let same : sight.lost_if w.lost back ≡ sight.lost_if w.lost (view d) = ap (λ (v : Option Message).
       sight.lost_if w.lost (sight.returned (view d) here v)) none in
@@ -93,7 +97,11 @@ module _ (d : Desk) (t : Task) (p : Post × Option Parcel) (w : IsTaken d t.hand
       (sym load)) in
       ap (kept_scrap p.0) there ∙ (rw live refl) in
       subst (λ (v : Option Parcel). Turn d here m (poll_taken left t v)) (sym o.1)
-      (subst (λ (x : Message). Turn d here x (event q (transfer.handled left t q q.code))) o.2 (takes left t q is taken keeps))
+      (subst (λ (x : Message). Turn d here x (event (as_read q) (transfer.received left t (as_read q)))) o.2
+      (subst (λ (z : Parcel). Turn d here (seen_parcel q) (event z (transfer.received left t z)))
+      (sym (read_same q (known_kind q.message.body (ap (λ (y : Message). is_known y.letter.kind) o.2 ∙ known))))
+      (subst (λ (b : Bool). Turn d here (seen_parcel q) (event q (if b then (left, outcome.Taken) else transfer.handled left t q q.code)))
+      (sym plays) (takes left t q is taken keeps))))
 
   -- the poll of a task for which there is no message, even where one has gone back
   pub none_is : first_for here (sight.returned (view d) here ((view d).held here)).queue ≡ None →
@@ -270,6 +278,7 @@ save_turn d h m a (takes d2 t p is taken keeps) granted came kind =
       anchor = w.anchor;
       address = w.address;
       bytes = w.bytes;
+      raw = w.raw;
       free_anchor = w.free_anchor;
       free_address = w.free_address;
       size = w.size;

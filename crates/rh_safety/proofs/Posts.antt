@@ -525,17 +525,17 @@ killed_pending d h p s x q l k =
 
 -- ---- new tasks
 
-pub started_known : (d : Desk) (buf : ℕ) (deaf file : Bool) (l : Letter) → Knows (started d buf deaf file) l → Knows d l
-started_known d buf deaf file l (queued y has eq) = queued y has eq
-started_known d buf deaf file l (kept k y q eq) = kept k y q eq
-started_known d buf deaf file l (latest k y q eq) = latest k y (unlast d d.next_handle k y q) eq
+pub started_known : (d : Desk) (buf : ℕ) (deaf file raw : Bool) (l : Letter) → Knows (started d buf deaf file raw) l → Knows d l
+started_known d buf deaf file raw l (queued y has eq) = queued y has eq
+started_known d buf deaf file raw l (kept k y q eq) = kept k y q eq
+started_known d buf deaf file raw l (latest k y q eq) = latest k y (unlast d d.next_handle k y q) eq
 
-pub started_inv : {o : Offered} {e : ℕ → ℕ → Bool} {d : Desk} (buf : ℕ) (deaf file : Bool) → 0 < buf → Inv o e d →
-    Inv o e (started d buf deaf file)
-started_inv {o} {e} {d} buf deaf file pos i =
+pub started_inv : {o : Offered} {e : ℕ → ℕ → Bool} {d : Desk} (buf : ℕ) (deaf file raw : Bool) → 0 < buf → Inv o e d →
+    Inv o e (started d buf deaf file raw)
+started_inv {o} {e} {d} buf deaf file raw pos i =
     let h = d.next_handle in
     let step1 = blank_inv h buf (λ a. None) (λ a. None) pos i in
-    let step2 = fewer_inv d.queue d.held (put d.last h None) (started_known d buf deaf file) i.order.rises (λ y has u.
+    let step2 = fewer_inv d.queue d.held (put d.last h None) (started_known d buf deaf file raw) i.order.rises (λ y has u.
     has) (λ f u. (i.files f u).live) step1 in
     record {
       letters = letters_bump (omega arith) (omega arith) step2.letters;
@@ -551,11 +551,11 @@ started_inv {o} {e} {d} buf deaf file pos i =
       positive = step2.positive;
     }
 
-pub started_pending : {o : Offered} {e : ℕ → ℕ → Bool} {d : Desk} (buf : ℕ) (deaf file : Bool) → Inv o e d →
-    Pending d → Pending (started d buf deaf file)
-started_pending {o} {e} {d} buf deaf file i p s x q l k =
+pub started_pending : {o : Offered} {e : ℕ → ℕ → Bool} {d : Desk} (buf : ℕ) (deaf file raw : Bool) → Inv o e d →
+    Pending d → Pending (started d buf deaf file raw)
+started_pending {o} {e} {d} buf deaf file raw i p s x q l k =
     let h = d.next_handle in
-    let old = started_known d buf deaf file l k.known in
+    let old = started_known d buf deaf file raw l k.known in
     let b = i.letters.below l old in
     let ne : l.from ≢ h = λ z. let u = b.from in omega arith in
     let w = p s x (none_left d.sending h s (Open x) q) l (record {

@@ -9,8 +9,13 @@ use Rattle.rh_defs.specs.Desk.{is_busy_block, is_busy_buffer}
 use Rattle.rh_defs.specs.Laws.{Rise}
 use Rattle.rh_safety.specs.Offered.{bytes_of_block}
 use Rattle.rh_safety.specs.Buffers.{bytes_of_buffer}
-use Rattle.rh_safety.specs.TaskRecords.{HoldsOne, HasFlexBlock, HasBuffer, Measures, IsRecorded, AreRecorded}
+use Rattle.rh_safety.specs.TaskRecords.{HasNoRecords, HoldsOne, HasFlexBlock, HasBuffer, Measures, IsRecorded, AreRecorded}
 use Rattle.rh_safety.proofs.SeenDocuments.{buffer_is}
+use Rattle.rh_safety.specs.RawIds.{Gave}
+use Rattle.rh_defs.specs.RawTasks.{is_raw}
+use Rattle.rh_safety.proofs.Common.{false, live_of}
+use Rattle.rh_safety.proofs.Keeps.{Stands}
+use Rattle.rh_safety.proofs.Masks.{masked}
 use Rattle.rh_safety.proofs.SeenLaws.{block_is}
 use Rattle.rh_safety.proofs.SeenFiles.{one_of, passes}
 
@@ -29,7 +34,7 @@ rises number least next (x ∷ xs) room low high up = (
 -- ---- a test that some record passes
 
 -- the record that passes
-module _ {o : Offered} {e : ℕ → ℕ → Bool} (d : Desk) (g : Good o e (view d)) (h : ℕ) (t : Task) (at : task_at h d ≡ Some t) where
+module _ {o : Offered} {e : ℕ → ℕ → Bool} (R : Gave) (d : Desk) (g : Good o e (masked R (view d))) (h : ℕ) (t : Task) (at : task_at h d ≡ Some t) where
   -- what is seen of the task
   sends : (view d).sending h ≡ t.sending
   sends = field_is (λ y. y.sending) [] h d.tasks t at
@@ -136,5 +141,15 @@ module _ {o : Offered} {e : ℕ → ℕ → Bool} (d : Desk) (g : Good o e (view
     owners = λ f k holds_f holds_k same. g.inv.ins.buffers h f k (active f holds_f) (active k holds_k) same;
   }
 
-pub are_recorded : {o : Offered} {e : ℕ → ℕ → Bool} (d : Desk) → Good o e (view d) → AreRecorded d
-are_recorded d g h t at = recorded d g h t at
+pub are_recorded : {o : Offered} {e : ℕ → ℕ → Bool} (R : Gave) (d : Desk) → Good o e (masked R (view d)) → AreRecorded d
+are_recorded R d g h t at = recorded R d g h t at
+
+-- ---- tasks with code of their own
+
+pub has_no_records : {o : Offered} {e : ℕ → ℕ → Bool} {R : Gave} (d : Desk) → Stands o e R (view d) → HasNoRecords d
+has_no_records d g h t at its =
+    let live = live_of d h t at in
+    let theirs : g.coded h ≡ true = sym (g.raws.manners h live) ∙ field_is (λ y. is_raw y.manner) false h d.tasks t at ∙ its in (
+      sym (field_is (λ y. y.sending) [] h d.tasks t at) ∙ g.raws.none_out h theirs,
+      sym (field_is (λ y. y.taking) [] h d.tasks t at) ∙ g.raws.none_in h theirs,
+    )

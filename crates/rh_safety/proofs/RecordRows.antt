@@ -14,6 +14,7 @@ use Rattle.rh_defs.specs.Records.{asking_of}
 use Rattle.rh_defs.specs.Sender as sender
 use Rattle.rh_defs.specs.Receiver as receiver
 use Rattle.rh_defs.specs.Commands.{with_new_task}
+use Rattle.rh_defs.specs.RawTasks.{is_raw_at}
 use Rattle.rh_defs.specs.Inner.Computing.{computing_script}
 use Rattle.rh_safety.specs.Offered.{bytes_of_block}
 use Rattle.rh_safety.specs.Buffers.{bytes_of_buffer, failed_by}
@@ -63,8 +64,11 @@ accepts_bare d t a = do
 
 abbrev no_document : Rules
 no_document = record landed {
-  takes_save = λ d t m. or_else (accepts_bare d t (record { id = m.message.my_ref; sender = m.message.from })) (λ refusal.
-      ignored d);
+  takes_save = λ d t m. or_else (accepts_bare d t (record {
+    id = m.message.my_ref;
+    sender = m.message.from;
+    raw = is_raw_at m.message.from d;
+  })) (λ refusal. ignored d);
 }
 
 abbrev answered : List String
@@ -90,7 +94,7 @@ right_poll = refl
 -- ---- counts
 
 -- of each transfer that comes in: whether it is Done, what its record counts, and how many bytes were offered
-abbrev counts : Rules → List String → ℕ → List (Bool × ℕ × Option ℕ)
+abbrev pub counts : Rules → List String → ℕ → List (Bool × ℕ × Option ℕ)
 counts rules lines h = let r = run_of rules lines in map (λ w. (is_done w, counted_in w, offered_length r (in_id w)))
     (taking_of (task_at h r.desk))
   where
@@ -212,7 +216,7 @@ wrong_owner = refl
 -- ---- its DataLoad
 
 -- of the scrap file, where there is one, whether its DataLoad is queued or held
-abbrev waits_for_load : Desk → Option Bool
+abbrev pub waits_for_load : Desk → Option Bool
 waits_for_load d = option_map (λ (file : Scrap). post_is_live file.load d.post) d.scrap
 
 -- a file that is saved, and its recipient's end

@@ -12,6 +12,7 @@ use Rattle.rh_defs.specs.declared.message.Body.TheVariants as body
 use Rattle.rh_defs.specs.Heap.{block_room}
 use Rattle.rh_defs.specs.Letters.{ack_letter, load_ack_letter}
 use Rattle.rh_defs.specs.Places.{first_bytes, free_from, with_heap_bytes, written_in}
+use Rattle.rh_defs.specs.RawTasks.{is_raw_at}
 use Rattle.rh_defs.specs.Receiver as receiver
 use Rattle.rh_defs.specs.Sender as sender
 use Rattle.rh_defs.specs.Slot.{anchor_count, is_used}
@@ -206,12 +207,21 @@ module _ (d : Desk) (t : Task) (m : Parcel) (is : task_of t.handle d.tasks ≡ S
         anchor = k;
         address = c.1;
         bytes = bytes;
+        raw = is_raw_at m.message.from d;
         free_anchor = block_seen k ∙ none;
         free_address = ap (λ (g : ℕ → Option (List ℕ)). g c.1) (field_is (λ y. buffers_of y.slot) (λ a. None) h d.tasks t is) ∙ claimed_free claimed;
         size = let y = buffer_size in let z : length bytes ≡ block_room t.buffer = length-replicate (block_room t.buffer) 0 in omega arith;
         few = few ((view d).taking h) (ap (is_full is_going) (field_is (λ y. y.taking) [] h d.tasks t is) ∙ room);
         seen = v3 ∙ ap (fetching k c.1 bytes) (sym buffer_size);
       }
+
+  -- and the record has the flag of its sender
+  pub claims_raw : (b : Body) (k : ℕ) (c p : _) (sent : Desk) (room : is_full is_going t.taking ≡ false) (free : free_anchor t.slot ≡ Some k)
+      (claim : slot_claim (free_pages d) t.buffer t.slot ≡ Ok c) (alloc : slot_alloc (free_pages (with_slot h c.0 d)) k 0 c.0 ≡ Ok p)
+      (e : send_letter (fetch_letter h (receiver.first_fetch (claim_of d t m) c.1 t.buffer)) (with_slot h p.0 d) ≡ Ok sent) →
+      (claims_seen b k c p sent room free claim alloc e).raw ≡ is_raw_at m.message.from d
+  unfolding claims_seen with_task
+  claims_raw b k c p sent room free claim alloc e = refl
 
   -- the same records, seen before and after an edit of the rest
   ins_after : {D E : sight.Desk} (e : Desk) (edit : List Incoming → List Incoming) → view e ≡ D → (view e).live h ≡ true →

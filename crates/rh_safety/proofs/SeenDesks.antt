@@ -1,6 +1,7 @@
 -- What is asked of a desk holds of each desk of a run.
 use Rattle.rh_safety.proofs.Common.{◌≡◌, ℕ, ◌+◌, ◌<◌, Bool, true, false, List, [], ◌∷◌, Option, Some, refl, sym, ap, ◌∙◌, ◌≤◌, subst, inl, inr, arith}
-use Rattle.rh_safety.proofs.Common.{eqb_tells, if◌then◌else◌, ◌==◌, IfSome, filter, map, not, Post, Seat, has_seat, held_by, post_death, post_poll, Desk}
+use Rattle.rh_safety.proofs.Common.{eqb_tells, if◌then◌else◌, ◌==◌, IfSome, filter, map, not, Post, Seat, Parcel, None, has_seat, held_by, with_held}
+use Rattle.rh_safety.proofs.Common.{post_death, post_poll, Desk}
 use Rattle.rh_safety.proofs.Common.{Task, IsDesk, Has, of, task_of, field, Fits, HaveOwnSeats}
 use Rattle.rh_defs.specs.Slot.{IsSlot}
 use Rattle.rh_defs.specs.Laws.{Ascend, Rise, seat_handles, task_handles}
@@ -89,6 +90,15 @@ own_seats d is p kept s has =
     let up = rises_as (λ (t : Task). t.handle) (λ (s : Seat). s.handle) 0 d.next_handle d.tasks d.post.seats is.seats is.handles in
     seat_holds 0 d.next_handle p.seats (kept d.next_handle up) s has
 
+-- a seat keeps its handle, whatever it holds
+held_handles : (h : ℕ) (v : Option Parcel) (seats : List Seat) →
+    map (λ (s : Seat). s.handle) (with_held h v seats) ≡ map (λ (s : Seat). s.handle) seats
+held_handles h v [] = refl
+held_handles h v (s ∷ seats) = elim (eqb_tells s.handle h) [
+  | inl w ↦ rw w.0 refl
+  | inr w ↦ rw w.0 (ap (λ (ks : List ℕ). s.handle ∷ ks) (held_handles h v seats))
+]
+
 -- ---- what is asked
 
 pub fits : (d : Desk) → IsDesk d → Fits d
@@ -104,4 +114,7 @@ fits d is = record {
       rise-same (λ (s : Seat). s.handle) 0 next others _
       ((post_death-kept h d.post is.post).handles ∙ sym (map-filter (λ (s : Seat). s.handle) (λ a. not (a == h)) d.post.seats))
       (rise-filter (λ (s : Seat). s.handle) (λ (s : Seat). not (s.handle == h)) 0 next d.post.seats up));
+  own = own_seats d is d.post (λ next up. up);
+  down = λ h. own_seats d is (record d.post { seats = with_held h None d.post.seats }) (λ next.
+      rise-same (λ (s : Seat). s.handle) 0 next d.post.seats _ (held_handles h None d.post.seats));
 }

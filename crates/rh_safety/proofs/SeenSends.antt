@@ -5,6 +5,7 @@ use Rattle.rh_safety.proofs.Common.{has_seat, held_by, with_held, answers_held, 
 use Rattle.rh_safety.proofs.Common.{free_pages, send_letter, is_deaf, answers_none, view, seen_parcel, seen_letter, seen_last, blocks_of, buffers_of, Message}
 use Rattle.rh_safety.proofs.Common.{put, Same, same_desk, slot_at}
 use Rattle.rh_defs.specs.declared.message.Letter.{Letter}
+use Rattle.rh_defs.specs.RawTasks.{is_raw}
 use Rattle.rh_defs.specs.Module.{module_claim}
 use Rattle.rh_defs.specs.Messages.{parcel_size}
 use Rattle.rh_defs.specs.Post.{message_of, parcel_of, posted, sendable}
@@ -167,11 +168,12 @@ sent_seen d l p live w =
       next_ref = p.next_ref;
     } in
     ◌∙◌ {c = d1}
-    (same_desk d0 _ _ _ _ _ _ _ _ _
+    (same_desk d0 _ _ _ _ _ _ _ _ _ _
     (change_other (λ y. true) false h f (λ y. refl) (λ y. refl) d.tasks) (change_other (λ y. y.buffer) 1 h f (λ y.
     refl) (λ y. refl) d.tasks)
     (change_other (λ y. is_deaf y.manner) false h f (λ y. refl) (λ y. refl) d.tasks) (change_other (λ y. answers_none
     y.manner) false h f (λ y. refl) (λ y. refl) d.tasks)
+    (change_other (λ y. is_raw y.manner) false h f (λ y. refl) (λ y. refl) d.tasks)
     (change_other (λ y. blocks_of y.slot) (λ a. None) h f (λ y. refl) (λ y. refl) d.tasks) (change_other (λ y.
     buffers_of y.slot) (λ a. None) h f (λ y. refl) (λ y. refl) d.tasks)
     (change_other (λ y. y.sending) [] h f (λ y. refl) (λ y. refl) d.tasks) (change_other (λ y. y.taking) [] h f (λ y.

@@ -10,6 +10,7 @@ use Rattle.rh_defs.specs.declared.transfer.Outgoing.{Outgoing}
 use Rattle.rh_defs.specs.declared.transfer.Incoming.{Incoming}
 use Rattle.rh_defs.specs.Desk.{Desk, Task, edit_task, with_task}
 use Rattle.rh_defs.specs.IncomingEvents.{is_deaf}
+use Rattle.rh_defs.specs.RawTasks.{is_raw}
 use Rattle.rh_defs.specs.Transfer.{answers_none}
 use Rattle.rh_safety.proofs.View.{view, seen_last, blocks_of, buffers_of, of, task_of, field}
 use Rattle.rh_safety.proofs.Ends.{put, Out, In, Message}
@@ -63,27 +64,29 @@ pub unput : {A : Type 0} (f : ℕ → A) (h : ℕ) (v : A) → f h ≡ v → (k 
 unput f h v q k = put_all (λ j z. f j ≡ z) f h v q (λ j ne. refl) k
 
 -- desks that have the same values
-pub same_desk : (d : sight.Desk) (lv : ℕ → Bool) (bf : ℕ → ℕ) (df fl : ℕ → Bool) (bl hp : ℕ → ℕ → Option (List ℕ))
+pub same_desk : (d : sight.Desk) (lv : ℕ → Bool) (bf : ℕ → ℕ) (df fl rw_ : ℕ → Bool) (bl hp : ℕ → ℕ → Option (List ℕ))
     (sd : ℕ → List Out) (tk : ℕ → List In) (la : ℕ → Option Message) →
-    Same lv d.live → Same bf d.buf → Same df d.deaf → Same fl d.file → Same bl d.block → Same hp d.heap →
+    Same lv d.live → Same bf d.buf → Same df d.deaf → Same fl d.file → Same rw_ d.raw → Same bl d.block → Same hp d.heap →
     Same sd d.sending → Same tk d.taking → Same la d.last →
     ◌≡◌ {A = sight.Desk} (record d {
       live = lv;
       buf = bf;
       deaf = df;
       file = fl;
+      raw = rw_;
       block = bl;
       heap = hp;
       sending = sd;
       taking = tk;
       last = la;
     }) d
-same_desk d lv bf df fl bl hp sd tk la e1 e2 e3 e4 e5 e6 e7 e8 e9 =
+same_desk d lv bf df fl rw_ bl hp sd tk la e1 e2 e3 e4 e10 e5 e6 e7 e8 e9 =
     λ i. record d {
       live = λ h. e1 h i;
       buf = λ h. e2 h i;
       deaf = λ h. e3 h i;
       file = λ h. e4 h i;
+      raw = λ h. e10 h i;
       block = λ h. e5 h i;
       heap = λ h. e6 h i;
       sending = λ h. e7 h i;
@@ -139,6 +142,7 @@ pub record IsEdit (f : Task → Task) : Type 0 where
   pub buffer : (y : Task) → (f y).buffer ≡ y.buffer
   pub deaf : (y : Task) → is_deaf (f y).manner ≡ is_deaf y.manner
   pub file : (y : Task) → answers_none (f y).manner ≡ answers_none y.manner
+  pub raw : (y : Task) → is_raw (f y).manner ≡ is_raw y.manner
 
 -- where the slot alone is another
 pub slot_view : (d : Desk) (h : ℕ) (g : Slot → Slot) (s : Slot) → (view d).live h ≡ true → slot_at d h ≡ s →
@@ -161,11 +165,12 @@ slot_view d h g s live at_ =
       block = put (view d).block h (blocks_of (g t.slot));
       heap = put (view d).heap h
           (buffers_of (g t.slot));
-    }) _ _ _ _ _ _ _ _ _
+    }) _ _ _ _ _ _ _ _ _ _
     (change_other (λ y. true) false h f (λ y. refl) (λ y. refl) d.tasks) (change_other (λ y. y.buffer) 1 h f (λ y.
     refl) (λ y. refl) d.tasks)
     (change_other (λ y. is_deaf y.manner) false h f (λ y. refl) (λ y. refl) d.tasks) (change_other (λ y. answers_none
     y.manner) false h f (λ y. refl) (λ y. refl) d.tasks)
+    (change_other (λ y. is_raw y.manner) false h f (λ y. refl) (λ y. refl) d.tasks)
     (change_here (λ y. blocks_of y.slot) (λ a. None) h f (λ y. refl) d.tasks t is) (change_here (λ y.
     buffers_of y.slot) (λ a. None) h f (λ y. refl) d.tasks t is)
     (change_other (λ y. y.sending) [] h f (λ y. refl) (λ y. refl) d.tasks) (change_other (λ y. y.taking) [] h f (λ y.
@@ -195,11 +200,12 @@ outs_view d h g live =
     let t = task_or d h in
     let is = task_is d h live in
     ◌∙◌ {c = record (view d) { sending = put (view d).sending h (g ((view d).sending h)) }}
-    (same_desk (record (view d) { sending = put (view d).sending h (g t.sending) }) _ _ _ _ _ _ _ _ _
+    (same_desk (record (view d) { sending = put (view d).sending h (g t.sending) }) _ _ _ _ _ _ _ _ _ _
     (change_other (λ y. true) false h f (λ y. refl) (λ y. refl) d.tasks) (change_other (λ y. y.buffer) 1 h f (λ y.
     refl) (λ y. refl) d.tasks)
     (change_other (λ y. is_deaf y.manner) false h f (λ y. refl) (λ y. refl) d.tasks) (change_other (λ y. answers_none
     y.manner) false h f (λ y. refl) (λ y. refl) d.tasks)
+    (change_other (λ y. is_raw y.manner) false h f (λ y. refl) (λ y. refl) d.tasks)
     (change_other (λ y. blocks_of y.slot) (λ a. None) h f (λ y. refl) (λ y. refl) d.tasks) (change_other (λ y.
     buffers_of y.slot) (λ a. None) h f (λ y. refl) (λ y. refl) d.tasks)
     (change_here (λ y. y.sending) [] h f (λ y. refl) d.tasks t is) (change_other (λ y. y.taking) [] h f (λ y. refl)
@@ -220,11 +226,12 @@ ins_view d h g live =
     let t = task_or d h in
     let is = task_is d h live in
     ◌∙◌ {c = record (view d) { taking = put (view d).taking h (g ((view d).taking h)) }}
-    (same_desk (record (view d) { taking = put (view d).taking h (g t.taking) }) _ _ _ _ _ _ _ _ _
+    (same_desk (record (view d) { taking = put (view d).taking h (g t.taking) }) _ _ _ _ _ _ _ _ _ _
     (change_other (λ y. true) false h f (λ y. refl) (λ y. refl) d.tasks) (change_other (λ y. y.buffer) 1 h f (λ y.
     refl) (λ y. refl) d.tasks)
     (change_other (λ y. is_deaf y.manner) false h f (λ y. refl) (λ y. refl) d.tasks) (change_other (λ y. answers_none
     y.manner) false h f (λ y. refl) (λ y. refl) d.tasks)
+    (change_other (λ y. is_raw y.manner) false h f (λ y. refl) (λ y. refl) d.tasks)
     (change_other (λ y. blocks_of y.slot) (λ a. None) h f (λ y. refl) (λ y. refl) d.tasks) (change_other (λ y.
     buffers_of y.slot) (λ a. None) h f (λ y. refl) (λ y. refl) d.tasks)
     (change_other (λ y. y.sending) [] h f (λ y. refl) (λ y. refl) d.tasks) (change_here (λ y. y.taking) [] h f (λ y.

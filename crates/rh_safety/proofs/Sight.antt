@@ -18,6 +18,7 @@ pub record Desk : Type 0 where
   pub buf : ℕ → ℕ
   pub deaf : ℕ → Bool
   pub file : ℕ → Bool  -- a task that answers no fetch
+  pub raw : ℕ → Bool  -- a task with code of its own
   pub block : ℕ → ℕ → Option (List ℕ)  -- the flex block of a task at an anchor
   pub heap : ℕ → ℕ → Option (List ℕ)  -- the block of a task's C heap at an address
   pub sending : ℕ → List Out
@@ -38,6 +39,7 @@ start most handle first =
       buf = λ h. 1;
       deaf = λ h. false;
       file = λ h. false;
+      raw = λ h. false;
       block = λ h a. None;
       heap = λ h a. None;
       sending = λ h. [];
@@ -90,9 +92,10 @@ picked d h m Returned = record d { queue = without_first h d.queue }
 
 -- The receiver
 
--- the desk with a first fetch: a buffer of these bytes at the address, an empty document at the anchor, and a record
-abbrev pub begun : Desk → ℕ → ℕ → ℕ → List ℕ → Letter → Desk
-begun d h anchor address bytes l =
+-- the desk with a first fetch: a buffer of these bytes at the address, an empty document at the anchor, and a record,
+-- with the flag of its sender
+abbrev pub begun : Desk → ℕ → ℕ → ℕ → List ℕ → Letter → Bool → Desk
+begun d h anchor address bytes l raw =
     sent (record d {
       heap = put d.heap h (put (d.heap h) address (Some bytes));
       block = put d.block h (put (d.block h) anchor (Some []));
@@ -103,6 +106,7 @@ begun d h anchor address bytes l =
         buffer = address;
         count = 0;
         fetch = d.next_ref;
+        raw = raw;
       })));
     }) h (record {
       code = Recorded;
@@ -148,6 +152,7 @@ fetched d h t n answers =
         buffer = t.buffer;
         count = t.count + n;
         fetch = d.next_ref;
+        raw = t.raw;
       })) (d.taking h));
     })
     h (record {
@@ -298,6 +303,7 @@ killed d h =
       buf = put d.buf h 1;
       deaf = put d.deaf h false;
       file = put d.file h false;
+      raw = put d.raw h false;
       block = put d.block h (λ a. None);
       heap = put d.heap h (λ a. None);
       sending = put d.sending h [];
@@ -369,13 +375,14 @@ abbrev pub with_heap : Desk → ℕ → ℕ → Option (List ℕ) → Desk
 with_heap d h a v = record d { heap = put d.heap h (put (d.heap h) a v) }
 
 -- the desk with a new task
-abbrev pub started : Desk → ℕ → Bool → Bool → Desk
-started d buf deaf file =
+abbrev pub started : Desk → ℕ → Bool → Bool → Bool → Desk
+started d buf deaf file raw =
     record d {
       live = put d.live d.next_handle true;
       buf = put d.buf d.next_handle buf;
       deaf = put d.deaf d.next_handle deaf;
       file = put d.file d.next_handle file;
+      raw = put d.raw d.next_handle raw;
       block = put d.block d.next_handle (λ a. None);
       heap = put d.heap d.next_handle (λ a. None);
       sending = put d.sending d.next_handle [];

@@ -101,6 +101,7 @@ pub record Pair : Type 0 where
   pub document : ℕ  -- the document's anchor
   pub address : ℕ  -- of the receiver's buffer
   pub room : ℕ  -- the receiver's buffer size
+  pub raw : Bool  -- the flag of the receiver's record
   pub outs : List Out
   pub ins : List In
 
@@ -126,6 +127,7 @@ incoming_at p k fetch = record {
   buffer = p.address;
   count = k;
   fetch = fetch;
+  raw = p.raw;
 }
 
 -- its fetch, in answer to the sender's last message
@@ -437,8 +439,8 @@ offer d s r anchor = record {
 }
 
 -- the transfer that begins, its document and its buffer
-abbrev pub pair_of : Desk → ℕ → ℕ → ℕ → List ℕ → ℕ → ℕ → Pair
-pair_of d s r anchor source document address = record {
+abbrev pub pair_of : Desk → ℕ → ℕ → ℕ → List ℕ → ℕ → ℕ → Bool → Pair
+pair_of d s r anchor source document address raw = record {
   sender = s;
   receiver = r;
   id = d.next_ref;
@@ -447,6 +449,7 @@ pair_of d s r anchor source document address = record {
   document = document;
   address = address;
   room = d.buf r;
+  raw = raw;
   outs = rest d.most is_open (d.sending s);
   ins = rest d.most is_going (d.taking r);
 }
@@ -464,10 +467,10 @@ module _ (d : Desk) (s r anchor : ℕ) (source : List ℕ) (w : Ready d s r anch
 
   -- the offer is taken, and the first fetch waits
   pub took_first : (after : Desk) (b : Began (picked d0 r (offer d s r anchor) Recorded) r (offer d s r anchor).letter
-      after) → Waiting (pair_of d s r anchor source b.anchor b.address) after 0
+      after) → Waiting (pair_of d s r anchor source b.anchor b.address b.raw) after 0
   took_first after b =
       let m = offer d s r anchor in
-      let p = pair_of d s r anchor source b.anchor b.address in
+      let p = pair_of d s r anchor source b.anchor b.address b.raw in
       let bl = put (d.block r) b.anchor (Some []) in
       let hp = put (d.heap r) b.address (Some b.bytes) in
       let apart = λ (e : s ≡ r) (a : anchor ≡ b.anchor). none_some (d.block r b.anchor) b.free_anchor

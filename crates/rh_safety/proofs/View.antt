@@ -11,6 +11,7 @@ use Rattle.rh_defs.specs.declared.message.Letter.{Letter}
 use Rattle.rh_defs.specs.Records.{most_records}
 use Rattle.rh_defs.specs.Desk.{Desk, Task, Scrap}
 use Rattle.rh_defs.specs.IncomingEvents.{is_deaf}
+use Rattle.rh_defs.specs.RawTasks.{is_raw}
 use Rattle.rh_defs.specs.Transfer.{answers_none}
 use Rattle.rh_safety.proofs.Ends as ram
 use Rattle.rh_safety.proofs.Sight as sight
@@ -31,6 +32,7 @@ amount_in (body.DataLoad f) = f.size
 amount_in (body.DataLoadAck f) = f.size
 amount_in (body.RamFetch buffer length) = length
 amount_in (body.RamTransmit buffer written) = written
+amount_in (body.Other o) = 0
 
 -- a message without its block
 abbrev pub seen_parcel : Parcel → ram.Message
@@ -108,6 +110,7 @@ view d = record {
   buf = field (λ t. t.buffer) 1 d.tasks;
   deaf = field (λ t. is_deaf t.manner) false d.tasks;
   file = field (λ t. answers_none t.manner) false d.tasks;
+  raw = field (λ t. is_raw t.manner) false d.tasks;
   block = field (λ t. blocks_of t.slot) (λ a. None) d.tasks;
   heap = field (λ t. buffers_of t.slot) (λ a. None) d.tasks;
   sending = field (λ t. t.sending) [] d.tasks;

@@ -23,7 +23,12 @@ use Rattle.rh_defs.specs.Receiver as receiver
 use Rattle.rh_defs.specs.Places.{written_in}
 use Rattle.rh_defs.specs.OutgoingEvents.{is_bad_range}
 use Rattle.rh_defs.specs.IncomingEvents.{end_failed}
+use Rattle.rh_defs.specs.declared.raw_command.RawCommand.TheVariants as raw
+use Rattle.rh_defs.specs.AnyMessage.{as_read}
 use Rattle.rh_defs.specs.Commands.{event}
+use Rattle.rh_defs.specs.RawCommands.{send, spool, transfer}
+use Rattle.rh_defs.specs.RawTasks.{is_raw, is_raw_at}
+use Rattle.std.specs.Prelude.{unwrap_or}
 use Rattle.rh_defs.specs.Inner.Computing.{computing_script}
 use Rattle.rh_safety.specs.Offered.{offers_next}
 use Rattle.rh_safety.specs.Held.{edits_next, held_of}
@@ -38,16 +43,23 @@ pub record Rules : Type 0 where
   pub takes_file : Desk → Task → Parcel → Handled
   pub saves : Desk → List ℕ → ℕ → List ℕ → List ℕ → Granted Answer
   pub cancels : Desk → List ℕ → Option ℕ → Granted Answer
+  pub sends : Desk → List ℕ → Bool → ℕ → ℕ → ℕ → List ℕ → Granted Answer
+  pub transfers : Desk → List ℕ → ℕ → ℕ → ℕ → ℕ → Granted Answer
+  pub spools : Desk → List ℕ → ℕ → ℕ → ℕ → Granted Answer
 
 abbrev pub landed : Rules
 landed = record {
   answers_fetch = λ d t m buffer amount. perform_send d t (sender.on_fetch m.message.from m.message.my_ref
       m.message.your_ref buffer amount t.sending);
-  takes_save = λ d t m. perform_take d t (receiver.on_save (is_deaf t.manner) m.message.from m.message.my_ref t.taking);
+  takes_save = λ d t m. perform_take d t
+      (receiver.flagged (is_raw_at m.message.from d) (receiver.on_save (is_deaf t.manner) m.message.from m.message.my_ref t.taking));
   answers_ack = λ d t m. perform_send d t (sender.on_ack m.message.from m.message.my_ref m.message.your_ref t.sending);
   takes_file = λ d t m. perform_take d t (receiver.on_load m.message.from m.message.my_ref m.message.your_ref t.taking);
   saves = save;
   cancels = cancel_in;
+  sends = send;
+  transfers = transfer;
+  spools = spool;
 }
 
 -- ---- runs by rules
@@ -60,6 +72,7 @@ came_by rules d t m (body.DataLoadAck file) = delivered d t m (body.DataLoadAck 
 came_by rules d t m (body.RamFetch buffer amount) = if answers_none t.manner then ignored d else rules.answers_fetch d
     t m buffer amount
 came_by rules d t m (body.RamTransmit buffer n) = delivered d t m (body.RamTransmit buffer n)
+came_by rules d t m (body.Other o) = ignored d
 
 abbrev handled_by : Rules → Desk → Task → Parcel → EventCode → Handled
 handled_by rules d t m User = came_by rules d t m m.message.body
@@ -68,7 +81,8 @@ handled_by rules d t m Acknowledge = bounced_to d t m m.message.body
 
 abbrev taken_by : Rules → Desk → Task → Option Parcel → Answer
 taken_by rules d t None = (d, reply.NoEvent)
-taken_by rules d t (Some m) = event m (handled_by rules d t m m.code)
+taken_by rules d t (Some m) =
+    event (as_read m) (if is_raw t.manner then (d, outcome.Taken) else handled_by rules d t (as_read m) m.code)
 
 abbrev polled_by : Rules → Desk → List ℕ → Granted Answer
 polled_by rules d name = named name d >>= λ t. Ok (taken_by rules (with_delivered (post_poll t.handle d.post).0 d) t
@@ -79,6 +93,12 @@ step_by rules d (command.Save name k to leaf) = or_else (rules.saves d name k to
     (d, reply.Refused refusal))
 step_by rules d (command.Poll name) = or_else (polled_by rules d name) (λ refusal. (d, reply.Refused refusal))
 step_by rules d (command.CancelIn name id) = or_else (rules.cancels d name id) (λ refusal. (d, reply.Refused refusal))
+step_by rules d (command.Raw (raw.Send name recorded h ref a bytes)) =
+    or_else (rules.sends d name recorded h ref a (unwrap_or bytes [])) (λ refusal. (d, reply.Refused refusal))
+step_by rules d (command.Raw (raw.Transfer name x h y n)) =
+    or_else (rules.transfers d name x h y n) (λ refusal. (d, reply.Refused refusal))
+step_by rules d (command.Raw (raw.Spool name k h ref)) =
+    or_else (rules.spools d name k h ref) (λ refusal. (d, reply.Refused refusal))
 step_by rules d c = step d c
 
 -- the desk, the offers and the edits after commands
@@ -100,7 +120,7 @@ abbrev pub run_of : Rules → List String → Run
 run_of rules lines = run_by rules (record { desk = fresh; offers = λ id. None; edits = λ h id. false }) (script lines)
 
 -- what the task holds of a transfer, and what that offered
-abbrev held_offered : Rules → List String → ℕ → ℕ → Option (List ℕ) × Option (List ℕ)
+abbrev pub held_offered : Rules → List String → ℕ → ℕ → Option (List ℕ) × Option (List ℕ)
 held_offered rules lines id h = let r = run_of rules lines in (
   held_of (task_at h r.desk) id (r.edits h id),
   r.offers id,
@@ -239,6 +259,7 @@ wrong_end : ends_of full_ends one_buffer ≡ (
     buffer = 0x8114;
     count = 4;
     fetch = 4;
+    raw = false;
   }) ∷ [],
 )
 unfolding computing_script hex_on_literals
@@ -423,7 +444,7 @@ accepts d t a = do
 
 abbrev takes_while_draining : Desk → Task → Parcel → Handled
 takes_while_draining d t m =
-    let a : Claim = record { id = m.message.my_ref; sender = m.message.from } in
+    let a : Claim = record { id = m.message.my_ref; sender = m.message.from; raw = is_raw_at m.message.from d } in
     if not (is_deaf t.manner) && not (is_full is_busy_record t.taking) then or_else (accepts d t a) (λ refusal.
     ignored d)
     else ignored d

@@ -20,6 +20,7 @@ use Rattle.rh_defs.specs.Records.{is_open, is_going}
 use Rattle.rh_defs.specs.Places.{free_anchor}
 use Rattle.rh_defs.specs.IncomingEvents.{is_deaf}
 use Rattle.rh_defs.specs.Transfer.{answers_none}
+use Rattle.rh_defs.specs.RawTasks.{is_raw}
 use Rattle.rh_defs.specs.Desk.{Desk, Task, has_name, task_at}
 use Rattle.rh_defs.specs.Commands.{step}
 use Rattle.rh_defs.specs.Runs.{after, replies}
@@ -88,12 +89,23 @@ pub record EndsDone (d : Desk) (s r : List ℕ) (n hs hr id : ℕ) (source : Lis
   pub takes : ReceiverDone (after d (turns r s n)) hr id source
 
 -- a save of n bytes to a buffer of L is accepted, and then 2 * (n / L) + 3 polls are refused nothing
-abbrev pub Alternates : Desk → Type 0
-Alternates d =
-    (s r : List ℕ) (k : ℕ) (leaf : List ℕ) (sender receiver : Task) (source : List ℕ) (id : ℕ) →
+abbrev pub EndsInTurn : Desk → List ℕ → List ℕ → ℕ → List ℕ → Task → Task → List ℕ → ℕ → Type 0
+EndsInTurn d s r k leaf sender receiver source id =
     in_range (command.Save s k r leaf) ≡ true → CanAlternate d s r k sender receiver source →
     (step d (command.Save s k r leaf)).1 ≡ reply.Sent id →
     let saved : Desk = (step d (command.Save s k r leaf)).0 in
     let rounds : ℕ = length source / receiver.buffer + 1 in
     all_granted saved (turns r s rounds) ≡ true →
     EndsDone saved s r rounds sender.handle receiver.handle id source
+
+-- so it is where the desk plays the receiver
+abbrev pub Alternates : Desk → Type 0
+Alternates d =
+    (s r : List ℕ) (k : ℕ) (leaf : List ℕ) (sender receiver : Task) (source : List ℕ) (id : ℕ) →
+    is_raw receiver.manner ≡ false → EndsInTurn d s r k leaf sender receiver source id
+
+-- so it is of any two tasks
+abbrev pub AllAlternate : Desk → Type 0
+AllAlternate d =
+    (s r : List ℕ) (k : ℕ) (leaf : List ℕ) (sender receiver : Task) (source : List ℕ) (id : ℕ) →
+    EndsInTurn d s r k leaf sender receiver source id

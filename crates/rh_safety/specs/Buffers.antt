@@ -1,7 +1,7 @@
 -- A fetch that would be answered names a buffer that is still held for it. Read Commands of rh_defs first.
 -- d is a desk, m a message in its block, s a slot, x the open record that would answer, n the bytes that are fetched, r
 -- a refusal. The sender is here the task that sent the fetch, which receives the transfer.
-use Rattle.std.specs.Prelude.{◌≡◌, ◌≢◌, ℕ, ◌≤◌, true, false, List, length, Option, Some, None, ◌⊎◌}
+use Rattle.std.specs.Prelude.{◌≡◌, ◌≢◌, ℕ, ◌≤◌, Bool, true, false, List, length, Option, Some, None, Ok, ◌⊎◌}
 use Rattle.std.specs.List.{Contains}
 use Rattle.std.specs.Option.{option_map}
 use Rattle.rh_defs.specs.Pieces.{Split}
@@ -23,7 +23,9 @@ use Rattle.rh_defs.specs.declared.transfer.Outgoing.TheVariants as outgoing
 use Rattle.rh_defs.specs.declared.transfer.Incoming.TheVariants as incoming
 use Rattle.rh_defs.specs.Sender.{would_answer}
 use Rattle.rh_defs.specs.Transfer.{answers_none}
-use Rattle.rh_defs.specs.Desk.{Desk, Task, task_at}
+use Rattle.rh_defs.specs.Desk.{Desk, Task, named, task_at}
+use Rattle.rh_defs.specs.Post.{post_poll}
+use Rattle.rh_defs.specs.RawTasks.{is_raw, is_raw_at}
 use Rattle.rh_defs.specs.Commands.{step}
 
 -- the bytes of the block of the C heap at an address
@@ -51,9 +53,16 @@ pub record HoldsBuffer (t : Task) (id address n : ℕ) : Type 0 where
   pub there : bytes_of_buffer t.slot address ≡ Some bytes
   pub room : n ≤ length bytes
 
--- each such fetch names a buffer that its sender holds for the transfer of that record
+-- each such fetch of a task that the desk plays names a buffer that its sender holds for the transfer of that record: a
+-- task with code of its own may name any address
 abbrev pub HasBuffers : Desk → Type 0
 HasBuffers d =
+    (m : Parcel) (recipient sender : Task) (x : Sending) (address n : ℕ) →
+    IsAnswerable d m recipient sender x address n → is_raw sender.manner ≡ false → HoldsBuffer sender x.id address n
+
+-- each such fetch does
+abbrev pub HasAllBuffers : Desk → Type 0
+HasAllBuffers d =
     (m : Parcel) (recipient sender : Task) (x : Sending) (address n : ℕ) →
     IsAnswerable d m recipient sender x address n → HoldsBuffer sender x.id address n
 
@@ -71,6 +80,17 @@ abbrev pub failed_by : Reply → Option Refusal
 failed_by (reply.Event code action my_ref your_ref outcome) = outcome_refusal outcome
 failed_by _ = None
 
--- no poll answers that a range was bad
+-- whether a message that is taken is of a live task with code of its own
+abbrev pub takes_raw : Option Parcel → Desk → Bool
+takes_raw None d = false
+takes_raw (Some m) d = is_raw_at m.message.from d
+
+-- no poll answers that a range was bad, but to a message of such a task
 abbrev pub HasGoodRanges : Desk → Type 0
-HasGoodRanges d = (name : List ℕ) → failed_by (step d (command.Poll name)).1 ≢ Some BadRange
+HasGoodRanges d =
+    (name : List ℕ) → ((t : Task) → named name d ≡ Ok t → takes_raw (post_poll t.handle d.post).1 d ≡ false) →
+    failed_by (step d (command.Poll name)).1 ≢ Some BadRange
+
+-- no poll answers that
+abbrev pub HasAllGoodRanges : Desk → Type 0
+HasAllGoodRanges d = (name : List ℕ) → failed_by (step d (command.Poll name)).1 ≢ Some BadRange

@@ -12,6 +12,7 @@ use Rattle.rh_defs.specs.Desk.{Desk, Task, task_at}
 use Rattle.rh_defs.specs.Runs.{start_with, after}
 use Rattle.rh_defs.specs.Laws.{IsStart}
 use Rattle.rh_safety.specs.Offered.{offered}
+use Rattle.rh_safety.specs.RawIds.{is_raw_id}
 use Rattle.rh_safety.specs.Held.{held}
 
 -- the bytes that a record counts: none are counted yet where a file is asked for
@@ -40,9 +41,16 @@ pub record CountsFile (d : Desk) (commands : List Command) (w : Incoming) : Type
   pub most : counted_in w ≤ length file
   pub all : is_done w ≡ true → counted_in w ≡ length file
 
--- after the commands, the same of each record of a live task's transfers, whatever came to its document since
+-- after the commands, the same of each record of a live task's transfers, whatever came to its document since; but not of
+-- those that tasks with code of their own began
 abbrev pub CountsOffered : Desk → List Command → Type 0
 CountsOffered d commands =
+    (h : ℕ) (t : Task) (w : Incoming) → task_at h (after d commands) ≡ Some t → Contains t.taking w →
+    is_raw_id d commands (in_id w) ≡ false → CountsFile d commands w
+
+-- of each record
+abbrev pub CountsAllOffered : Desk → List Command → Type 0
+CountsAllOffered d commands =
     (h : ℕ) (t : Task) (w : Incoming) → task_at h (after d commands) ≡ Some t → Contains t.taking w →
     CountsFile d commands w
 

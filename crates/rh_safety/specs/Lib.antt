@@ -1,5 +1,7 @@
 pub mod Offered
 pub mod Held
+pub mod RawIds
+pub mod Played
 pub mod Refs
 pub mod Safe
 pub mod Buffers
@@ -10,3 +12,4 @@ pub mod Counts
 pub mod ScrapFile
 pub mod Alternation
 pub mod Numbers
+pub mod Given

@@ -1,7 +1,7 @@
 -- What the records of a live task's transfers say, and that what they name is there. Read Buffers and Offered first.
 -- d is a desk, t a task, h its handle, k an anchor, n a number of bytes, x an open transfer that goes out, f and g are
 -- transfers that have a buffer, q one that waits for a file.
-use Rattle.std.specs.Prelude.{◌≡◌, ℕ, ◌≤◌, true, List, length, Some, ◌⊎◌}
+use Rattle.std.specs.Prelude.{◌≡◌, ℕ, ◌≤◌, true, List, [], length, Some, ◌⊎◌}
 use Rattle.std.specs.List.{Contains}
 use Rattle.rh_defs.specs.declared.transfer.Sending.{Sending}
 use Rattle.rh_defs.specs.declared.transfer.Taking.{Taking}
@@ -10,6 +10,7 @@ use Rattle.rh_defs.specs.declared.transfer.Outgoing.TheVariants as outgoing
 use Rattle.rh_defs.specs.declared.transfer.Incoming.TheVariants as incoming
 use Rattle.rh_defs.specs.Records.{in_id, most_records, out_id}
 use Rattle.rh_defs.specs.Desk.{Desk, Task, is_busy_block, is_busy_buffer, next_ref, task_at}
+use Rattle.rh_defs.specs.RawTasks.{is_raw}
 use Rattle.rh_defs.specs.Laws.{Rise}
 use Rattle.rh_safety.specs.Buffers.{bytes_of_buffer}
 use Rattle.rh_safety.specs.Offered.{bytes_of_block}
@@ -51,6 +52,11 @@ pub record IsRecorded (d : Desk) (t : Task) : Type 0 where
   pub fetching : (f : Taking) → Contains t.taking (incoming.Fetching f) → Measures t f.anchor f.count
   pub rooms : (f : Taking) → HoldsOne t f → HasBuffer t f.buffer t.buffer
   pub owners : (f g : Taking) → HoldsOne t f → HoldsOne t g → f.buffer ≡ g.buffer → f.id ≡ g.id
+
+-- a live task with code of its own has no records
+abbrev pub HasNoRecords : Desk → Type 0
+HasNoRecords d =
+    (h : ℕ) (t : Task) → task_at h d ≡ Some t → is_raw t.manner ≡ true → (t.sending ≡ []) × (t.taking ≡ [])
 
 -- so it is of each live task
 abbrev pub AreRecorded : Desk → Type 0

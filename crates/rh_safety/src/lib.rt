@@ -3,4 +3,6 @@
 
 mod laws;
 
-pub use laws::{alternation_law, buffer_law, numbers_law, record_law, safe_law, scrap_law};
+pub use laws::{
+    alternation_law, buffer_law, given_law, numbers_law, record_law, safe_law, scrap_law,
+};

@@ -1,7 +1,9 @@
-use Rattle.rh_safety.specs.ScrapFile.{OwnsScrapFile}
-use Rattle.rh_safety.proofs.ScrapLaws.{owns_scrap_file}
-use Rattle.rh_safety.proofs.SeenLaws.{always}
+use Rattle.rh_safety.proofs.Played.{owns_any}
+use Rattle.rh_safety.proofs.ScrapLaws.{always_owns_scrap_file}
 use Rattle.rh_safety.proofs.laws.scrap_law.Goals as goal
 
-pub returns : goal.returns
-returns c = always OwnsScrapFile (λ d w. owns_scrap_file d w.good)
+pub returns-clause-files : goal.returns-clause-files
+returns-clause-files c = always_owns_scrap_file
+
+pub returns-clause-all : goal.returns-clause-all
+returns-clause-all c = owns_any
