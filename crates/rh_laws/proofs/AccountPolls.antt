@@ -105,7 +105,7 @@ pub record Keeps (c : ℕ → Option ℕ) (h : ℕ) (x : Handled) : Type 0 where
   pub desk : Kept c h x.0 records
 
 -- the same tasks
-kept-as : {c : ℕ → Option ℕ} {h : ℕ} {d : Desk} {ws : List Incoming} → Kept c h d ws → (e : Desk) → e.tasks ≡ d.tasks → Kept c h e ws
+pub kept-as : {c : ℕ → Option ℕ} {h : ℕ} {d : Desk} {ws : List Incoming} → Kept c h d ws → (e : Desk) → e.tasks ≡ d.tasks → Kept c h e ws
 kept-as {h = h} w e same = record {
   slot = w.slot;
   stands = record { task = w.stands.task; there = ap (task_of h) same ∙ w.stands.there; slot = w.stands.slot; taking = w.stands.taking };
@@ -113,7 +113,7 @@ kept-as {h = h} w e same = record {
 }
 
 -- bytes written into a slot's blocks
-written-kept : {c : ℕ → Option ℕ} {h : ℕ} {d : Desk} {ws : List Incoming} (k : ℕ) (g : Slot → Slot) →
+pub written-kept : {c : ℕ → Option ℕ} {h : ℕ} {d : Desk} {ws : List Incoming} (k : ℕ) (g : Slot → Slot) →
     ((s : Slot) (p : ℕ) → size_in (buffers_of (g s) p) ≡ size_in (buffers_of s p)) → Kept c h d ws →
     Kept c h (with_task k (λ (y : Task). record y { slot = g y.slot }) d) ws
 written-kept {c} {h} {d} {ws} k g same w = elim (eqb_tells k h) [

@@ -8,7 +8,7 @@ use Rattle.rh_laws.proofs.Common.{written_in, buffers_of, and_left, and_right}
 use Rattle.rh_defs.specs.Pieces.{with_here}
 use Rattle.rh_defs.specs.Heap.{is_around, is_block_at}
 use Rattle.rh_defs.specs.Slot.{with_heap, flex_around}
-use Rattle.rh_defs.specs.Places.{roomy_in, written_around, written_heap}
+use Rattle.rh_defs.specs.Places.{roomy_in, written_around, written_held, written_heap}
 use Rattle.rh_safety.proofs.HeapMap.{bytes_at, heap_map, IsMoved}
 use Rattle.rh_safety.proofs.SeenHeaps.{cut_is, used_is}
 use Rattle.rh_safety.proofs.HeapMaps as heaps
@@ -75,21 +75,25 @@ in-block x s new (Some c) q k =
     same-sizes s c u.bytes (written (bytes_of c.here) offset new) cut.whole u.here
     (written-length new (bytes_of c.here) offset (let a = u.from in let b = u.to in omega (arith, a, b, size)) ∙ size) k
 
--- a write wherever it goes
-pub written-sizes : (x amount : ℕ) (s : Slot) (new : List ℕ) → length new ≤ amount → (k : ℕ) →
-    size_in (buffers_of (written_in x new (buffer_at x amount s) s) k) ≡ size_in (buffers_of s k)
-written-sizes x amount s new le k = go (heap_block_at x s) refl
+-- a write at an address, wherever it goes
+pub at-sizes : (x : ℕ) (s : Slot) (new : List ℕ) (k : ℕ) → size_in (buffers_of (written_held x new s) k) ≡ size_in (buffers_of s k)
+at-sizes x s new k = around (flex_around x (length new) s)
   where
     around : (o : Option (Split Flex)) → size_in (buffers_of (written_around x new o s) k) ≡ size_in (buffers_of s k)
     around None = in-block x s new (block_around (x - heap_start) (length new) s.heap) refl k
     around (Some b) = refl
 
+-- a write into a buffer that has room, or wherever it goes
+pub written-sizes : (x amount : ℕ) (s : Slot) (new : List ℕ) → length new ≤ amount → (k : ℕ) →
+    size_in (buffers_of (written_in x new (buffer_at x amount s) s) k) ≡ size_in (buffers_of s k)
+written-sizes x amount s new le k = go (heap_block_at x s) refl
+  where
     roomy : (c : Split Segment) → heap_block_at x s ≡ Some c → (b : Bool) → nat_le amount (length (bytes_of c.here)) ≡ b →
         size_in (buffers_of (written_in x new (if b then Some c else None) s) k) ≡ size_in (buffers_of s k)
     roomy c q true e = at-address x s c new q (grind (arith, leb_tells amount (length (bytes_of c.here)), e, le)) k
-    roomy c q false e = around (flex_around x (length new) s)
+    roomy c q false e = at-sizes x s new k
 
     go : (o : Option (Split Segment)) → heap_block_at x s ≡ o →
         size_in (buffers_of (written_in x new (roomy_in amount o) s) k) ≡ size_in (buffers_of s k)
-    go None q = around (flex_around x (length new) s)
+    go None q = at-sizes x s new k
     go (Some c) q = roomy c q (nat_le amount (length (bytes_of c.here))) refl

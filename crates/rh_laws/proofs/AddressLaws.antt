@@ -5,7 +5,17 @@ use Rattle.rh_laws.proofs.Common.{post_poll, in_id, is_open, out_id, Desk, Task,
 use Rattle.rh_laws.proofs.Common.{start_task, kill, make, after, start_with, save, repeat, poll, poll_taken, cancel_in, cancel_out, change, step, OnGrant}
 use Rattle.rh_laws.proofs.Common.{granted, granted-past, granted-then, granted-with, or_else-keeps, append-all, held, at_place, Has, first_is, has_of}
 use Rattle.rh_laws.proofs.Common.{is_equal, none_some, open_is, found_name, is_found, Changed, IsOnMemory, granted-on}
-use Rattle.rh_laws.proofs.Common.{in_slot}
+use Rattle.rh_laws.proofs.Common.{in_slot, any-grant, chosen, either, granted-both, handled, length, unwrap_or, without_buffer, Handled, Scrap, Taking}
+use Rattle.rh_defs.specs.declared.message.FileData.{FileData}
+use Rattle.rh_defs.specs.declared.raw_command.RawCommand.TheVariants as raw
+use Rattle.rh_defs.specs.declared.reply.Outcome.TheVariants as outcome
+use Rattle.rh_defs.specs.AnyMessage.{as_read, body_of, read_body}
+use Rattle.rh_defs.specs.Commands.{after_letter, with_released}
+use Rattle.rh_defs.specs.OutgoingEvents.{scrap_shortage, wider}
+use Rattle.rh_defs.specs.Places.{bytes_held, written_held}
+use Rattle.rh_defs.specs.Post.{put_down}
+use Rattle.rh_defs.specs.RawCommands.{ack, after_answer, raw_letter, send, spool, spool_letter, transfer}
+use Rattle.rh_defs.specs.RawTasks.{is_raw}
 use Rattle.rh_defs.specs.declared.command.Command.TheVariants as command
 use Rattle.rh_defs.specs.declared.message.Body.TheVariants as body
 use Rattle.rh_defs.specs.declared.reply.Reply.TheVariants as reply
@@ -16,11 +26,11 @@ use Rattle.rh_defs.specs.Receiver as receiver
 use Rattle.rh_defs.proofs.Lists.{filter-all, find-all}
 use Rattle.rh_safety.specs.Held.{document_of, held_of, is_edited}
 use Rattle.rh_safety.specs.Offered.{last_of}
-use Rattle.rh_laws.specs.Addressed.{Addresses, AgreesIn, AlwaysAddressed, From, IsAddressed, Parties, addressed, addressed_again, addressed_last}
-use Rattle.rh_laws.specs.Addressed.{addresses_from, addresses_next, parties_of}
+use Rattle.rh_laws.specs.Addressed.{Addresses, AgreesIn, AlwaysAddressed, From, IsAddressed, Parties, addressed, addressed_last}
+use Rattle.rh_laws.specs.Addressed.{addressed_as, addresses_from, addresses_next, parties_of, parties_to}
 use Rattle.rh_laws.proofs.Addresses.{Agrees, BodyAgrees, Extends, InAgrees, InsAgree, LastAgrees, OutAgrees, OutsAgree, TaskAgrees, all-has, all-more}
 use Rattle.rh_laws.proofs.Addresses.{all-with, delivered-agrees, ins-agree, letter-agrees, new-born, new-extends, new-here, outs-agree, slot-agrees}
-use Rattle.rh_laws.proofs.Addresses.{ParcelAgrees, back-agrees}
+use Rattle.rh_laws.proofs.Addresses.{ParcelAgrees, back-agrees, plain-agrees, still-agrees, task-agrees}
 use Rattle.rh_laws.proofs.AddressPolls.{mine-agrees}
 use Rattle.rh_laws.proofs.Queues.{IsMine, death-left, poll-taken}
 
@@ -80,10 +90,16 @@ module _ (a : Addresses) (d : Desk) (g : Agrees a d) where
       (granted-then _ _ λ w f. granted (all-with (InAgrees a t.handle) in_id (in_id w) (receiver.cancelled w) t.taking
       (cancelled-agrees t.handle w (all-has (InAgrees a t.handle) t.taking w (named-agrees d g name t e).ins
       (first_is (receiver.is_wanted id) t.taking w (is_found _ NotOpen w f)).0)) (named-agrees d g name t e).ins)) λ records all.
-      same (ins-agree t.handle (λ old. records) (λ ws old. all) d g)
+      same (ins-agree t.handle (λ old. records) (λ ws old. all) (with_released t.handle (receiver.released_by id t.taking) d)
+      (released-agrees t.handle (receiver.released_by id t.taking)))
     where
+      released-agrees : (h : ℕ) (o : Option Taking) → Agrees a (with_released h o d)
+      released-agrees h None = g
+      released-agrees h (Some f) = task-agrees h (λ (t : Task). record t { slot = without_buffer f.buffer t.slot }) (λ t same is. is) d g
+
       cancelled-agrees : (h : ℕ) (w : Incoming) → InAgrees a h w → InAgrees a h (receiver.cancelled w)
-      cancelled-agrees h (incoming.Fetching f) is = is
+      cancelled-agrees h (incoming.Fetching f) is =
+          chosen (InAgrees a h) f.raw (incoming.Failed f.id f.anchor f.count) (incoming.Draining f) (f.sender, is) is
       cancelled-agrees h (incoming.Draining f) is = is
       cancelled-agrees h (incoming.Asking q) is = (q.sender, is)
       cancelled-agrees h (incoming.Done i k n) is = is
@@ -109,7 +125,33 @@ module _ (a : Addresses) (d : Desk) (g : Agrees a d) where
       Agrees a (poll_taken e t o).0
   unfolding poll_taken
   taken-agrees t own e all None mine = all
-  taken-agrees t own e all (Some m) mine = mine-agrees a t own e all m mine
+  taken-agrees t own e all (Some m) mine =
+      either (λ (x : Handled). Agrees a x.0) (is_raw t.manner) (e, outcome.Taken) (handled e t (as_read m) m.code) (λ its. all)
+      (λ plays. mine-agrees a t own e all (as_read m) mine.own mine.agrees)
+
+  -- what is held is put down
+  ack-keeps : (name : List ℕ) → OnGrant Keeps (ack d name)
+  unfolding ack
+  ack-keeps name =
+      granted-then _ _ λ t e. granted-past _ _ _ λ its. same (still-agrees (put_down t.handle d.post) d refl refl g)
+
+  -- bytes of another task
+  transfer-keeps : (name : List ℕ) (x h y n : ℕ) → OnGrant Keeps (transfer d name x h y n)
+  unfolding transfer
+  transfer-keeps name x h y n =
+      granted-then _ _ λ t e. granted-past _ _ _ λ open_. granted-then _ _ λ r f. granted-past _ _ _ λ its.
+      same (task-agrees r.handle (λ (r : Task). record r { slot = written_held y (bytes_held x n t.slot) r.slot }) (λ r same is. is) d g)
+
+  -- a DataLoad, and the scrap file that it is of
+  spool-keeps : (name : List ℕ) (k h ref : ℕ) → OnGrant Keeps (spool d name k h ref)
+  unfolding spool
+  spool-keeps name k h ref =
+      granted-then _ _ λ t e. granted-then _ _ λ b f. granted-past _ _ _ λ none. granted-both _ (any-grant _) λ x u. granted-past _ _ _ λ fits.
+      granted-with _ (plain-agrees (spool_letter t.handle h ref (length b.here.bytes)) (wider (scrap_shortage (length b.here.bytes) d) d) tt g) λ sent all.
+      granted-past _ _ _ λ its. granted-past _ _ _ λ was. same (scrapped sent (Some (record { load = next_ref d; bytes = b.here.bytes })) all)
+    where
+      scrapped : (sent : Desk) (file : Option Scrap) → Agrees a sent → Agrees a (record sent { scrap = file })
+      scrapped sent file all = record { born = all.born; of_tasks = all.of_tasks; mail = all.mail }
 
   poll-keeps : (name : List ℕ) → OnGrant Keeps (poll d name)
   unfolding poll
@@ -143,7 +185,7 @@ module _ (a : Addresses) (d : Desk) (g : Agrees a d) where
       let here : new (next_ref d) ≡ v = new-here a (next_ref d) v in
       let is : parties_of (find (has_name name) d.tasks) (find (has_name to) d.tasks) ≡ v =
       ap (λ o. parties_of o (find (has_name to) d.tasks)) (found_name d name t e) ∙ ap (parties_of (Some t)) (is_found _ NoTask r i) in
-      granted-with _ (letter-agrees a new (more v) _ d (later v) here g) λ sent all.
+      granted-with _ (letter-agrees a new (more v) _ d (later v) here g) λ sent all. granted-past _ _ _ λ plays.
       let edit : List Outgoing → List Outgoing = sender.sending_offered (next_ref d) r.handle k in
       let opened : Outgoing = outgoing.Open (sender.new_sending (next_ref d) r.handle k) in
       granted (record {
@@ -152,11 +194,41 @@ module _ (a : Addresses) (d : Desk) (g : Agrees a d) where
       })
 
   -- a message once more, by what it says: what is then addressed, and that the new message agrees with it
-  again-agrees : (h r old : ℕ) (b : Body) → BodyAgrees a h r old b →
-      Extends a (addressed_again a (next_ref d) old b) × ((i : ℕ) → next_ref d + 1 ≤ i → addressed_again a (next_ref d) old b i ≡ None)
-      × BodyAgrees (addressed_again a (next_ref d) old b) h r (next_ref d) b
-  again-agrees h r old (body.DataSave file) is = (more (a old), later (a old), new-here a (next_ref d) (a old) ∙ is)
-  again-agrees h r old _ is = (λ i p q. q, λ i low. g.born i (omega (arith, low)), tt)
+  again-agrees : (h r : ℕ) (v : Option Parties) (b : Body) → ((f : FileData) → b ≡ body.DataSave f → From v h r) →
+      Extends a (addressed_as a (next_ref d) v b) × ((i : ℕ) → next_ref d + 1 ≤ i → addressed_as a (next_ref d) v b i ≡ None)
+      × BodyAgrees (addressed_as a (next_ref d) v b) h r (next_ref d) b
+  again-agrees h r v (body.DataSave file) is = (more v, later v, new-here a (next_ref d) v ∙ is file refl)
+  again-agrees h r v _ is = (λ i p q. q, λ i low. g.born i (omega (arith, low)), tt)
+
+  -- a DataSave that agrees is of these tasks
+  save-agrees : (h r ref : ℕ) (b : Body) → BodyAgrees a h r ref b → (f : FileData) → b ≡ body.DataSave f → From (a ref) h r
+  save-agrees h r ref (body.DataSave file) is f e = is
+  save-agrees h r ref (body.DataSaveAck file) is f e = absurd cc
+  save-agrees h r ref (body.DataLoad file) is f e = absurd cc
+  save-agrees h r ref (body.DataLoadAck file) is f e = absurd cc
+  save-agrees h r ref (body.RamFetch buffer n) is f e = absurd cc
+  save-agrees h r ref (body.RamTransmit buffer n) is f e = absurd cc
+  save-agrees h r ref (body.Other o) is f e = absurd cc
+
+  -- the scrap file kept or given up after a message
+  answered : {b : Addresses} (sent : Desk) → Agrees b sent → Agrees b (after_answer sent)
+  answered sent all = still-agrees sent.post sent refl refl all
+
+  send-follows : (name : List ℕ) (recorded : Bool) (h ref act : ℕ) (bytes : Option (List ℕ)) →
+      let c = command.Raw (raw.Send name recorded h ref act bytes) in
+      OnGrant (Follows c) (send d name recorded h ref act (unwrap_or bytes []))
+  unfolding send
+  send-follows name recorded h ref act bytes =
+      let b : Body = body_of act (unwrap_or bytes []) in
+      granted-then _ _ λ t e.
+      let v : Option Parties = Some (record { sender = t.handle; receiver = h }) in
+      let is : parties_to (find (has_name name) d.tasks) h ≡ v = ap (λ o. parties_to o h) (found_name d name t e) in
+      let w = again-agrees t.handle h v (read_body b) (λ f q. refl) in
+      granted-with _ (letter-agrees a (addressed_as a (next_ref d) v (read_body b)) w.0 (raw_letter t.handle recorded h ref act (unwrap_or bytes [])) d
+      w.1 w.2 g) λ sent all. granted-past _ _ _ λ its. granted-past _ _ _ λ was.
+      granted (record {
+        desk = subst (λ u. Agrees (addressed_as a (next_ref d) u (read_body b)) (after_answer sent)) (sym is) (answered sent all);
+      })
 
   repeat-follows : (name : List ℕ) → OnGrant (Follows (command.Repeat name)) (repeat d name)
   unfolding repeat
@@ -165,10 +237,14 @@ module _ (a : Addresses) (d : Desk) (g : Agrees a d) where
       let sent_last : t.last_sent ≡ Some last = is_found t.last_sent NothingSent last f in
       let is : last_of (find (has_name name) d.tasks) ≡ Some last = ap last_of (found_name d name t e) ∙ sent_last in
       let old : LastAgrees a t.handle (Some last) = subst (LastAgrees a t.handle) sent_last (named-agrees d g name t e).sent in
-      let w = again-agrees t.handle last.0.to last.1 last.0.body old in
-      granted-with _ (letter-agrees a (addressed_again a (next_ref d) last.1 last.0.body) w.0 (record last.0 { from = t.handle }) d
-      w.1 w.2 g) λ sent all.
-      granted (record { desk = subst (λ v. Agrees (addressed_last a (next_ref d) v) sent) (sym is) all })
+      let b : Body = read_body last.0.body in
+      let w = again-agrees t.handle last.0.to (a last.1) b (save-agrees t.handle last.0.to last.1 b old) in
+      let new : Addresses = addressed_as a (next_ref d) (a last.1) b in
+      granted-with _ (letter-agrees a new w.0 (record last.0 { from = t.handle }) d w.1 w.2 g) λ sent all.
+      granted (record {
+        desk = subst (λ v. Agrees (addressed_last a (next_ref d) v) (after_letter t.manner sent)) (sym is)
+            (chosen (Agrees new) (is_raw t.manner) (after_answer sent) sent (answered sent all) all);
+      })
 
 -- ---- all commands
 
@@ -188,6 +264,14 @@ module _ (a : Addresses) (d : Desk) (g : Agrees a d) where
   step-agrees (command.Repeat name) =
       (or_else-keeps (Follows a d g (command.Repeat name)) _ (repeat-follows a d g name) (λ refusal. record { desk = g })).desk
   step-agrees (command.Make most) = kept (make-keeps a d g most)
+  step-agrees (command.Raw (raw.Send name recorded h ref act bytes)) =
+      let c = command.Raw (raw.Send name recorded h ref act bytes) in
+      (or_else-keeps (Follows a d g c) _ (send-follows a d g name recorded h ref act bytes) (λ refusal. record { desk = g })).desk
+  step-agrees (command.Raw (raw.Write name x bytes)) = kept (memory-keeps a d g (command.Raw (raw.Write name x bytes)) refl)
+  step-agrees (command.Raw (raw.Transfer name x h y n)) = kept (transfer-keeps a d g name x h y n)
+  step-agrees (command.Raw (raw.Ack name)) = kept (ack-keeps a d g name)
+  step-agrees (command.Raw (raw.Spool name k h ref)) = kept (spool-keeps a d g name k h ref)
+  step-agrees (command.Raw (raw.Scrap name k)) = kept (memory-keeps a d g (command.Raw (raw.Scrap name k)) refl)
   step-agrees c = kept (memory-keeps a d g c tt)
 
 after-agrees : (a : Addresses) (d : Desk) (cs : List Command) → Agrees a d → Agrees (addresses_from a d cs) (after d cs)

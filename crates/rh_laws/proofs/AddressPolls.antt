@@ -4,6 +4,7 @@ use Rattle.rh_laws.proofs.Common.{Letter, None, Ok, Some, appended, chosen, fals
 use Rattle.rh_laws.proofs.Common.{refl}
 use Rattle.rh_laws.proofs.Common.{send_letter, subst, taking_ended, with_id, with_sending, with_taking, ℕ, ◌+◌, ◌≡◌}
 use Rattle.rh_defs.proofs.Chains.{grant-holds}
+use Rattle.rh_defs.specs.AnyMessage.{read_body}
 use Rattle.rh_defs.specs.declared.transfer.Incoming.TheVariants as incoming
 use Rattle.rh_defs.specs.declared.transfer.Outgoing.TheVariants as outgoing
 use Rattle.rh_defs.specs.Sender as sender
@@ -11,9 +12,8 @@ use Rattle.rh_defs.specs.Receiver as receiver
 use Rattle.rh_safety.proofs.Acts.{Act, abandons, asks, claims, fails, finishes, gives_up, handled-acts, loads, loads_only, part_of, saves, sends}
 use Rattle.rh_safety.proofs.Acts.{skips, takes_full, takes_last, takes_some, transmit_of}
 use Rattle.rh_laws.specs.Addressed.{Addresses, From}
-use Rattle.rh_laws.proofs.Addresses.{Agrees, BodyAgrees, InAgrees, OutAgrees, ParcelAgrees, TaskAgrees, all-has, all-more, all-with, back-agrees, code-says}
+use Rattle.rh_laws.proofs.Addresses.{Agrees, BodyAgrees, CodeAgrees, InAgrees, OutAgrees, TaskAgrees, all-has, all-more, all-with, code-says}
 use Rattle.rh_laws.proofs.Addresses.{ended-agrees, ins-agree, outs-agree, plain-agrees, slot-agrees, task-agrees}
-use Rattle.rh_laws.proofs.Queues.{IsMine}
 
 module _ (a : Addresses) (t : Task) (own : TaskAgrees a t) (d : Desk) (g : Agrees a d) (m : Parcel) where
   abbrev h : ℕ
@@ -43,7 +43,7 @@ module _ (a : Addresses) (t : Task) (own : TaskAgrees a t) (d : Desk) (g : Agree
     ended : (f : Taking) (w : Incoming) → InAgrees a h w → Agrees a (taking_ended h f (λ ws. with_id in_id f.id w ws) e)
     ended f w is = ended-agrees h f _ (λ ws old. all-with (InAgrees a h) in_id f.id w ws is old) e all
 
-    posted : {sent : Desk} (l : Letter) → BodyAgrees a l.from l.to e.post.next_ref l.body → send_letter l e ≡ Ok sent → Agrees a sent
+    posted : {sent : Desk} (l : Letter) → BodyAgrees a l.from l.to e.post.next_ref (read_body l.body) → send_letter l e ≡ Ok sent → Agrees a sent
     posted l is q = grant-holds (plain-agrees l e is all) q
 
   longer : {e : Desk} (k : ℕ) (bytes : List ℕ) → appended d t k bytes ≡ Ok e → Agrees a e
@@ -85,6 +85,7 @@ module _ (a : Addresses) (t : Task) (own : TaskAgrees a t) (d : Desk) (g : Agree
       (q.sender, of-asking q it.has)
 
   -- a message that is the task's
-  pub mine-agrees : IsMine (ParcelAgrees a) (back-agrees a) h m → Agrees a (handled d t m m.code).0
-  mine-agrees mine = act-agrees (handled-acts d t m m.code) (λ came.
-      subst (λ j. BodyAgrees a m.message.from j m.message.my_ref m.message.body) mine.own (code-says m.code mine.agrees came))
+  pub mine-agrees : m.to ≡ h → CodeAgrees m.code (BodyAgrees a m.message.from m.to m.message.my_ref m.message.body) →
+      Agrees a (handled d t m m.code).0
+  mine-agrees own agrees = act-agrees (handled-acts d t m m.code) (λ came.
+      subst (λ j. BodyAgrees a m.message.from j m.message.my_ref m.message.body) own (code-says m.code agrees came))

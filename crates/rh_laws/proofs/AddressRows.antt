@@ -1,5 +1,5 @@
 -- Worked runs of whom transfers are offered to, and a run with one definition changed, on which addressed_law fails.
-use Rattle.rh_laws.proofs.Common.{◌≡◌, ℕ, List, [], ◌∷◌, ◌++◌, Option, Some, None, map, refl, ap, arith, hex_on_literals, String, Incoming, Parcel, Desk}
+use Rattle.rh_laws.proofs.Common.{◌≡◌, ℕ, false, List, [], ◌∷◌, ◌++◌, Option, Some, None, map, refl, ap, arith, hex_on_literals, String, Incoming, Parcel, Desk}
 use Rattle.rh_laws.proofs.Common.{Task, task_at, after, poll_taken, held, fresh, script}
 use Rattle.rh_defs.specs.declared.transfer.Incoming.TheVariants as incoming
 use Rattle.rh_defs.specs.Inner.Computing.{computing_script}
@@ -56,7 +56,7 @@ takes_any d (Some t) = (poll_taken d t (first_of d.post.queued)).0
 
 -- the third task's records after it polled so, and whom the transfer was offered to
 wrong_task : taking_of (task_at 3 (takes_any (after fresh (script offered_once)) (task_at 3 (after fresh (script offered_once)))))
-    ≡ incoming.Fetching (record { id = 1; sender = 1; anchor = 0; buffer = 0x8114; count = 0; fetch = 2 }) ∷ []
+    ≡ incoming.Fetching (record { id = 1; sender = 1; anchor = 0; buffer = 0x8114; count = 0; fetch = 2; raw = false }) ∷ []
 unfolding computing_script hex_on_literals
 wrong_task = refl
 
@@ -82,7 +82,7 @@ wrong_law (incoming.Failed id k n) is = not_third is.0 is.1
 
 -- a poll of the third task takes nothing, and one of b the offer
 right_tasks : map (λ h. taking_of (task_at h (after fresh (script (offered_once ++ "poll c" ∷ "poll b" ∷ []))))) (2 ∷ 3 ∷ []) ≡
-    (incoming.Fetching (record { id = 1; sender = 1; anchor = 0; buffer = 0x8114; count = 0; fetch = 2 }) ∷ []) ∷ [] ∷ []
+    (incoming.Fetching (record { id = 1; sender = 1; anchor = 0; buffer = 0x8114; count = 0; fetch = 2; raw = false }) ∷ []) ∷ [] ∷ []
 unfolding computing_script hex_on_literals
 right_tasks = refl
 

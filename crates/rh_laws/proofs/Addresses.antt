@@ -4,6 +4,7 @@ use Rattle.rh_laws.proofs.Common.{AllByRecursion}
 use Rattle.rh_laws.proofs.Common.{eqb_tells, Body, EventCode, User, Recorded, Acknowledge, Letter, Outgoing, Incoming, Taking, Parcel, Post, as_returned}
 use Rattle.rh_laws.proofs.Common.{in_id, out_id, with_id, Slot, Desk, Task, edit_task, free_pages, send_letter, with_delivered, with_post, with_sending}
 use Rattle.rh_laws.proofs.Common.{with_slot, with_taking, with_task, taking_ended, OnGrant, chosen, granted, granted-with, all-mono, append-all, Has, at_place}
+use Rattle.rh_defs.specs.AnyMessage.{read_body}
 use Rattle.rh_defs.specs.declared.message.Body.TheVariants as body
 use Rattle.rh_defs.specs.declared.transfer.Outgoing.TheVariants as outgoing
 use Rattle.rh_defs.specs.declared.transfer.Incoming.TheVariants as incoming
@@ -32,12 +33,12 @@ code-says Recorded p e = p
 code-says Acknowledge p e = absurd (let z : true ≡ false = e in (cc))
 
 abbrev pub ParcelAgrees : Addresses → Parcel → Type 0
-ParcelAgrees a p = CodeAgrees p.code (BodyAgrees a p.message.from p.to p.message.my_ref p.message.body)
+ParcelAgrees a p = CodeAgrees p.code (BodyAgrees a p.message.from p.to p.message.my_ref (read_body p.message.body))
 
 -- what a task sent last
 abbrev pub LastAgrees : Addresses → ℕ → Option (Letter × ℕ) → Type 0
 LastAgrees a h None = Unit {0}
-LastAgrees a h (Some last) = BodyAgrees a h last.0.to last.1 last.0.body
+LastAgrees a h (Some last) = BodyAgrees a h last.0.to last.1 (read_body last.0.body)
 
 abbrev pub OutAgrees : Addresses → ℕ → Outgoing → Type 0
 OutAgrees a h v = AgreesOut (a (out_id v)) h v
@@ -105,11 +106,11 @@ module _ (a b : Addresses) (more : Extends a b) where
   code-extends Acknowledge f is = tt
 
   parcel-extends : (p : Parcel) → ParcelAgrees a p → ParcelAgrees b p
-  parcel-extends p is = code-extends p.code (body-extends p.message.from p.to p.message.my_ref p.message.body) is
+  parcel-extends p is = code-extends p.code (body-extends p.message.from p.to p.message.my_ref (read_body p.message.body)) is
 
   last-extends : (h : ℕ) (last : Option (Letter × ℕ)) → LastAgrees a h last → LastAgrees b h last
   last-extends h None is = tt
-  last-extends h (Some last) is = body-extends h last.0.to last.1 last.0.body is
+  last-extends h (Some last) is = body-extends h last.0.to last.1 (read_body last.0.body) is
 
   out-extends : (h : ℕ) (v : Outgoing) → OutAgrees a h v → OutAgrees b h v
   out-extends h (outgoing.Open x) is = more x.id _ is
@@ -217,6 +218,16 @@ module _ {a : Addresses} where
     mail = left.mail g.mail;
   }
 
+-- where no message came or went
+pub still-agrees : {a : Addresses} (p : Post) (d : Desk) → p.queued ≡ d.post.queued → p.next_ref ≡ d.post.next_ref → Agrees a d →
+    Agrees a (with_delivered p d)
+unfolding with_delivered
+still-agrees {a} p d queued next g = record {
+  born = λ i low. g.born i (subst (λ n. n ≤ i) next low);
+  of_tasks = g.of_tasks;
+  mail = subst (AllByRecursion (ParcelAgrees a)) (sym queued) g.mail;
+}
+
 -- ---- letters
 
 module _ (a b : Addresses) (more : Extends a b) (l : Letter) (d : Desk) where
@@ -226,13 +237,14 @@ module _ (a b : Addresses) (more : Extends a b) (l : Letter) (d : Desk) where
   code-agrees Acknowledge p = tt
 
   -- after a letter that agrees with what is then addressed
-  pub letter-agrees : ((i : ℕ) → d.post.next_ref + 1 ≤ i → b i ≡ None) → BodyAgrees b l.from l.to d.post.next_ref l.body → Agrees a d →
+  pub letter-agrees : ((i : ℕ) → d.post.next_ref + 1 ≤ i → b i ≡ None) → BodyAgrees b l.from l.to d.post.next_ref (read_body l.body) → Agrees a d →
       OnGrant (Agrees b) (send_letter l d)
   unfolding send_letter
   letter-agrees born is g =
       granted-with _ (sent-is (free_pages d) l d.post) λ x w.
       granted (task-agrees l.from (λ (t : Task). record t { last_sent = Some (l, x.1) }) (λ t same old. record {
-        sent = subst (λ j. BodyAgrees b j l.to x.1 l.body) (sym same) (subst (λ n. BodyAgrees b l.from l.to n l.body) (sym w.ref) is);
+        sent = subst (λ j. BodyAgrees b j l.to x.1 (read_body l.body)) (sym same)
+            (subst (λ n. BodyAgrees b l.from l.to n (read_body l.body)) (sym w.ref) is);
         outs = old.outs;
         ins = old.ins;
       }) (with_post x.0 d) (record {
@@ -243,6 +255,6 @@ module _ (a b : Addresses) (more : Extends a b) (l : Letter) (d : Desk) where
       }))
 
 -- a letter that offers nothing
-pub plain-agrees : {a : Addresses} (l : Letter) (d : Desk) → BodyAgrees a l.from l.to d.post.next_ref l.body → Agrees a d →
+pub plain-agrees : {a : Addresses} (l : Letter) (d : Desk) → BodyAgrees a l.from l.to d.post.next_ref (read_body l.body) → Agrees a d →
     OnGrant (Agrees a) (send_letter l d)
 plain-agrees {a} l d is g = letter-agrees a a (λ i p q. q) l d (λ i low. g.born i (omega (arith, low))) is g

@@ -1,7 +1,7 @@
 -- What holds of each question: by which conditions it is refused, and that its answer follows a renaming of bytes.
 use Rattle.rh_laws.proofs.Common.{◌≡◌, ℕ, ◌+◌, List, [], ◌∷◌, ◌++◌, length, map, refl, ap, ◌∙◌, length-map, Question, Segment, Used, Hole}
 use Rattle.rh_laws.proofs.Common.{first_place, size_of, largest, free_bytes, Flex, flex_weight, heap_start, Desk, Task, free_pages, named, Bytes}
-use Rattle.rh_laws.proofs.Common.{Told, heap, asked, Follows, Ok, ◌>>=◌, slot_block}
+use Rattle.rh_laws.proofs.Common.{Told, heap, asked, Follows, follows-as, not, Ok, ◌>>=◌, refuse_if, slot_block}
 use Rattle.std.specs.List.{enumerate_from}
 use Rattle.rh_defs.specs.declared.question.Question.TheVariants as question
 use Rattle.rh_defs.specs.declared.question.Numbers.TheVariants as numbers
@@ -11,23 +11,27 @@ use Rattle.rh_defs.specs.declared.question.AreaItem.{AreaItem}
 use Rattle.rh_defs.specs.declared.question.AreaItem.TheVariants as item
 use Rattle.rh_defs.specs.Slot.{weight, flex_start}
 use Rattle.rh_defs.specs.Desk.{Made, task_pages}
-use Rattle.rh_defs.specs.Questions.{Blocks, Segments, Areas, block_items_from, segment_item, segment_items_from, area_item, show, blocks, status}
+use Rattle.rh_defs.specs.Questions.{Blocks, Segments, Areas, block_items_from, segment_item, segment_items_from, area_item, show, read, blocks, status}
 use Rattle.rh_laws.specs.Renaming.{renamed_block, renamed_segment, renamed_slot, renamed_task, renamed, renamed_listed}
 use Rattle.rh_laws.proofs.RenamedParts.{By, follows-by}
 use Rattle.rh_laws.proofs.RenamedHeaps.{size-renamed, largest-renamed, free_bytes-renamed}
-use Rattle.rh_laws.proofs.RenamedSlots.{pages-renamed, slot_block-renamed}
+use Rattle.rh_laws.proofs.RenamedSlots.{bytes_held-renamed, holds-renamed, pages-renamed, slot_block-renamed}
+use Rattle.rh_defs.specs.declared.refusal.Refusal.TheVariants.{BadRange}
 use Rattle.rh_defs.specs.declared.reply.Reply.TheVariants as reply
 use Rattle.rh_laws.specs.Conditions.{asked_rows}
-use Rattle.rh_laws.proofs.RefusalSteps.{GoesBy, done, found_then, granted_then, in_steps}
+use Rattle.rh_laws.proofs.RefusalSteps.{GoesBy, done, found_then, granted_then, in_steps, in_steps_both, refused_if}
 use Rattle.rh_laws.proofs.RenamedDesks.{free-renamed, named-renamed}
 
 -- ---- refusals
 
 module _ (d : Desk) where
   pub ask-goes : (q : Question) → GoesBy (asked d q >>= λ told. Ok (d, reply.Answered told.0)) (asked_rows d q)
-  unfolding named show blocks heap status slot_block
+  unfolding named show read blocks heap status slot_block
   ask-goes (question.Show name k) =
       in_steps _ _ _ _ (found_then _ _ _ _ λ t e. rw e (in_steps _ _ _ _ (found_then _ _ _ _ λ b f.
+      granted_then _ _ _ _ refl (done _ refl))))
+  ask-goes (question.Read name x n) =
+      in_steps _ _ _ _ (found_then _ _ _ _ λ t e. rw e (in_steps_both _ _ _ _ (refused_if _ _ BadRange _ _ refl λ fits.
       granted_then _ _ _ _ refl (done _ refl))))
   ask-goes (question.Blocks name) = in_steps _ _ _ _ (found_then _ _ _ _ λ t e. granted_then _ _ _ _ refl (done _ refl))
   ask-goes (question.Heap name) = in_steps _ _ _ _ (found_then _ _ _ _ λ t e. granted_then _ _ _ _ refl (done _ refl))
@@ -77,6 +81,13 @@ module _ (f : ℕ → ℕ) where
       follows-by _ _ (named-renamed f name d) λ t. follows-by _ _ (slot_block-renamed f k t.slot) λ b.
       Follows.both (ap (λ n. (numbers.Shown n, Bytes (map f b.here.bytes))) (length-map b.here.bytes f))
 
+  read-renamed : (d : Desk) (name : List ℕ) (x n : ℕ) → Follows (By retold) (read d name x n) (read (renamed f d) name x n)
+  unfolding read
+  read-renamed d name x n =
+      follows-by _ _ (named-renamed f name d) λ t.
+      follows-as _ _ _ _ (ap (λ b. refuse_if (not b) BadRange) (holds-renamed f x n t.slot))
+      (Follows.both (ap (λ l. (numbers.Shown n, Bytes l)) (bytes_held-renamed f x n t.slot)))
+
   blocks-renamed : (d : Desk) (name : List ℕ) → Follows (By retold) (blocks d name) (blocks (renamed f d) name)
   unfolding blocks
   blocks-renamed d name =
@@ -112,6 +123,7 @@ module _ (f : ℕ → ℕ) where
 
   pub asked-renamed : (d : Desk) (q : Question) → Follows (By retold) (asked d q) (asked (renamed f d) q)
   asked-renamed d (question.Show name k) = show-renamed d name k
+  asked-renamed d (question.Read name x n) = read-renamed d name x n
   asked-renamed d (question.Blocks name) = blocks-renamed d name
   asked-renamed d (question.Heap name) = heap-renamed d name
   asked-renamed d (question.Status name) = status-renamed d name

@@ -5,18 +5,22 @@ use Rattle.rh_laws.proofs.Common.{Incoming, Taking, Parcel, Post, as_returned, S
 use Rattle.rh_laws.proofs.Common.{with_post, with_sending, with_slot, with_taking, with_task, taking_ended, OnGrant, granted, granted-with, all-mono}
 use Rattle.rh_laws.proofs.Common.{append-all}
 use Rattle.rh_laws.proofs.Common.{none_some, Has, at_place}
+use Rattle.rh_defs.specs.AnyMessage.{read_body}
 use Rattle.rh_defs.specs.declared.message.Body.TheVariants as body
 use Rattle.rh_defs.specs.declared.transfer.Outgoing.TheVariants as outgoing
 use Rattle.rh_defs.specs.declared.transfer.Incoming.TheVariants as incoming
+use Rattle.rh_safety.specs.RawIds.{Gave}
 use Rattle.rh_laws.proofs.Addresses.{CodeAgrees}
 use Rattle.rh_laws.proofs.Queues.{Left, sent-is}
 
 -- ---- what agrees
 
--- the transfer that the message of each ref belongs to, and which task loaded the file of which transfer
+-- the transfer that the message of each ref belongs to, which task loaded the file of which transfer, and which refs
+-- tasks with code of their own gave
 pub record Marks : Type 0 where
   pub of_ref : ℕ → Option ℕ
   pub loaded : List (ℕ × ℕ)
+  pub raw : Gave
 
 -- the task loaded the transfer's file
 abbrev pub Loaded : Marks → ℕ → ℕ → Type 0
@@ -25,22 +29,32 @@ Loaded a r id = Has (r, id) a.loaded
 abbrev pub Unloaded : Marks → ℕ → ℕ → Type 0
 Unloaded a r id = Loaded a r id → ⊥
 
--- a message with these refs from a task: to what it belongs, and that a DataLoadAck's transfer was loaded by that task
-abbrev pub Says : Marks → ℕ → ℕ → ℕ → Body → Type 0
-Says a from my your (body.DataSave file) = Unit {0}
-Says a from my your (body.DataSaveAck file) = a.of_ref my ≡ Some your
-Says a from my your (body.DataLoad file) = (i : ℕ) × (a.of_ref my ≡ Some i) × (a.of_ref your ≡ Some i)
-Says a from my your (body.DataLoadAck file) = (i : ℕ) × (a.of_ref your ≡ Some i) × Loaded a from i
-Says a from my your (body.RamFetch buffer n) = Unit {0}
-Says a from my your (body.RamTransmit buffer n) = Unit {0}
+-- the message of the ref belongs to the transfer, where it isn't theirs
+abbrev pub IsOf : Marks → ℕ → ℕ → Type 0
+IsOf a ref i = a.raw ref ≡ false → a.of_ref ref ≡ Some i
 
--- one that is not on its way back; none is of a transfer that its recipient loaded
-pub record Comes (a : Marks) (p : Parcel) : Type 0 where
-  pub says : Says a p.message.from p.message.my_ref p.message.your_ref p.message.body
-  pub apart : Unloaded a p.to p.message.my_ref
+-- a message with these refs from a task: to what it belongs, and that a DataLoadAck's transfer was loaded by that task
+abbrev pub Means : Marks → ℕ → ℕ → ℕ → Body → Type 0
+Means a from my your (body.DataSave file) = Unit {0}
+Means a from my your (body.DataSaveAck file) = a.of_ref my ≡ Some your
+Means a from my your (body.DataLoad file) = (i : ℕ) × (a.of_ref my ≡ Some i) × IsOf a your i
+Means a from my your (body.DataLoadAck file) = (i : ℕ) × IsOf a your i × Loaded a from i
+Means a from my your (body.RamFetch buffer n) = Unit {0}
+Means a from my your (body.RamTransmit buffer n) = Unit {0}
+Means a from my your (body.Other o) = Unit {0}
+
+-- so it is of those that the desk's own tasks sent
+abbrev pub Says : Marks → ℕ → ℕ → ℕ → Body → Type 0
+Says a from my your b = a.raw my ≡ false → Means a from my your b
+
+-- one to a task that is not on its way back; none is of a transfer that its recipient loaded
+pub record Comes (a : Marks) (to from my your : ℕ) (b : Body) : Type 0 where
+  pub says : Says a from my your b
+  pub apart : Unloaded a to my
 
 abbrev pub ParcelAgrees : Marks → Parcel → Type 0
-ParcelAgrees a p = CodeAgrees p.code (Comes a p)
+ParcelAgrees a p =
+    CodeAgrees p.code (Comes a p.to p.message.from p.message.my_ref p.message.your_ref (read_body p.message.body))
 
 pub back-agrees : (a : Marks) (p : Parcel) → ParcelAgrees a (as_returned p)
 back-agrees a p = tt
@@ -48,7 +62,7 @@ back-agrees a p = tt
 -- what a task sent last
 abbrev pub LastAgrees : Marks → ℕ → Option (Letter × ℕ) → Type 0
 LastAgrees a h None = Unit {0}
-LastAgrees a h (Some last) = Says a h last.1 last.0.your_ref last.0.body
+LastAgrees a h (Some last) = Says a h last.1 last.0.your_ref (read_body last.0.body)
 
 -- the last message of an open record belongs to its transfer
 abbrev pub OutAgrees : Marks → Outgoing → Type 0
@@ -89,16 +103,21 @@ Agrees a d = AgreesBy a (InAgrees a) d
 
 -- ---- more that is known
 
--- what was known of refs and loads still is
+-- what was known of refs and loads still is, and a ref of theirs is theirs
 pub record Grows (a b : Marks) : Type 0 where
   pub refs : (i j : ℕ) → a.of_ref i ≡ Some j → b.of_ref i ≡ Some j
   pub loads : (r i : ℕ) → Loaded a r i → Loaded b r i
+  pub raws : (i : ℕ) → b.raw i ≡ false → a.raw i ≡ false
 
 pub grows-same : (a : Marks) → Grows a a
-grows-same a = record { refs = λ i j q. q; loads = λ r i has. has }
+grows-same a = record { refs = λ i j q. q; loads = λ r i has. has; raws = λ i q. q }
 
 pub grows-both : {a b c : Marks} → Grows a b → Grows b c → Grows a c
-grows-both x y = record { refs = λ i j q. y.refs i j (x.refs i j q); loads = λ r i has. y.loads r i (x.loads r i has) }
+grows-both x y = record {
+  refs = λ i j q. y.refs i j (x.refs i j q);
+  loads = λ r i has. y.loads r i (x.loads r i has);
+  raws = λ i q. x.raws i (y.raws i q);
+}
 
 -- a ref that is given belongs to a transfer, or to none
 abbrev pub marked : Marks → ℕ → Option ℕ → Marks
@@ -111,7 +130,26 @@ marked-grows a ref v none = record {
     | inr w ↦ rw w.0 q
   ];
   loads = λ r i has. has;
+  raws = λ i q. q;
 }
+
+-- a ref that a task with code of its own gave
+abbrev pub given : Marks → ℕ → Marks
+given a ref = record a { raw = at_place a.raw ref true }
+
+given-here : (a : Marks) (ref : ℕ) → (given a ref).raw ref ≡ true
+given-here a ref = elim (eqb_tells ref ref) [ inl w ↦ rw w.0 refl | inr w ↦ absurd (w.1 refl) ]
+
+pub given-grows : (a : Marks) (ref : ℕ) → Grows a (given a ref)
+given-grows a ref = record {
+  refs = λ i j q. q;
+  loads = λ r i has. has;
+  raws = λ i q. not_there (i == ref) i q;
+}
+  where
+    not_there : (b : Bool) (i : ℕ) → (if b then true else a.raw i) ≡ false → a.raw i ≡ false
+    not_there true i q = absurd (let z : Bool.true ≡ false = q in (cc))
+    not_there false i q = q
 
 pub marked-here : (a : Marks) (ref : ℕ) (v : Option ℕ) → (marked a ref v).of_ref ref ≡ v
 marked-here a ref v = elim (eqb_tells ref ref) [ inl w ↦ rw w.0 refl | inr w ↦ absurd (w.1 refl) ]
@@ -124,17 +162,24 @@ marked-born a next v born i low = elim (eqb_tells i next) [
 ]
 
 module _ (a b : Marks) (more : Grows a b) where
+  of-grows : (ref i : ℕ) → IsOf a ref i → IsOf b ref i
+  of-grows ref i is plays = more.refs ref i (is (more.raws ref plays))
+
+  means-grows : (from my your : ℕ) (c : Body) → Means a from my your c → Means b from my your c
+  means-grows from my your (body.DataSave file) is = tt
+  means-grows from my your (body.DataSaveAck file) is = more.refs my _ is
+  means-grows from my your (body.DataLoad file) is = (is.0, more.refs my _ is.1, of-grows your is.0 is.2)
+  means-grows from my your (body.DataLoadAck file) is = (is.0, of-grows your is.0 is.1, more.loads from _ is.2)
+  means-grows from my your (body.RamFetch buffer n) is = tt
+  means-grows from my your (body.RamTransmit buffer n) is = tt
+  means-grows from my your (body.Other o) is = tt
+
   pub says-grows : (from my your : ℕ) (c : Body) → Says a from my your c → Says b from my your c
-  says-grows from my your (body.DataSave file) is = tt
-  says-grows from my your (body.DataSaveAck file) is = more.refs my _ is
-  says-grows from my your (body.DataLoad file) is = (is.0, more.refs my _ is.1, more.refs your _ is.2)
-  says-grows from my your (body.DataLoadAck file) is = (is.0, more.refs your _ is.1, more.loads from _ is.2)
-  says-grows from my your (body.RamFetch buffer n) is = tt
-  says-grows from my your (body.RamTransmit buffer n) is = tt
+  says-grows from my your c is plays = means-grows from my your c (is (more.raws my plays))
 
   last-grows : (h : ℕ) (last : Option (Letter × ℕ)) → LastAgrees a h last → LastAgrees b h last
   last-grows h None is = tt
-  last-grows h (Some last) is = says-grows h last.1 last.0.your_ref last.0.body is
+  last-grows h (Some last) is = says-grows h last.1 last.0.your_ref (read_body last.0.body) is
 
   out-grows : (v : Outgoing) → OutAgrees a v → OutAgrees b v
   out-grows (outgoing.Open x) is = more.refs x.last _ is
@@ -167,7 +212,7 @@ module _ (a b : Marks) (more : Grows a b) where
 
     parcel-grows : (p : Parcel) → ParcelAgrees a p → ParcelAgrees b p
     parcel-grows p is = by_code p.code (λ c. record {
-      says = says-grows p.message.from p.message.my_ref p.message.your_ref p.message.body c.says;
+      says = says-grows p.message.from p.message.my_ref p.message.your_ref (read_body p.message.body) c.says;
       apart = λ has. c.apart (ends p.to p.message.my_ref has);
     }) is
       where
@@ -272,6 +317,17 @@ module _ {a : Marks} {I : Ins} where
     mail = left.mail g.mail;
   }
 
+-- where no message came or went
+pub still-agrees : {a : Marks} (p : Post) (d : Desk) → p.queued ≡ d.post.queued → p.next_ref ≡ d.post.next_ref →
+    Agrees a d → Agrees a (with_delivered p d)
+unfolding with_delivered
+still-agrees {a} p d queued next g = record {
+  born = λ i low. g.born i (subst (λ n. n ≤ i) next low);
+  unloaded = λ r i low. g.unloaded r i (subst (λ n. n ≤ i) next low);
+  of_tasks = g.of_tasks;
+  mail = subst (AllByRecursion (ParcelAgrees a)) (sym queued) g.mail;
+}
+
 -- records that come in of one task written anew, where less is asked of them before
 pub ins-become : {a : Marks} {I J : Ins} (h : ℕ) (edit : List Incoming → List Incoming) →
     ((ws : List Incoming) → AllByRecursion (I h) ws → AllByRecursion (J h) (edit ws)) →
@@ -295,7 +351,7 @@ pub record Ready (b : Marks) (J : Ins) (l : Letter) (d : Desk) : Type 0 where
   pub unloaded : (r i : ℕ) → d.post.next_ref ≤ i → Unloaded b r i
   pub of_tasks : (h : ℕ) → IfSome (find (λ (t : Task). t.handle == h) d.tasks) (HandleAgrees b J h)
   pub mail : AllByRecursion (ParcelAgrees b) d.post.queued
-  pub says : Says b l.from d.post.next_ref l.your_ref l.body
+  pub says : Says b l.from d.post.next_ref l.your_ref (read_body l.body)
 
 module _ (b : Marks) (J : Ins) (l : Letter) (d : Desk) where
   code-agrees : (c : EventCode) {P : Type 0} → P → CodeAgrees c P
@@ -308,7 +364,7 @@ module _ (b : Marks) (J : Ins) (l : Letter) (d : Desk) where
   letter-agrees is =
       granted-with _ (sent-is (free_pages d) l d.post) λ x w.
       granted (task-agrees l.from (λ (t : Task). record t { last_sent = Some (l, x.1) }) (λ t. refl) (λ t old. record {
-        sent = subst (λ n. Says b l.from n l.your_ref l.body) (sym w.ref) is.says;
+        sent = subst (λ n. Says b l.from n l.your_ref (read_body l.body)) (sym w.ref) is.says;
         outs = old.outs;
         ins = old.ins;
       }) (with_post x.0 d) (record {
@@ -322,7 +378,7 @@ module _ (b : Marks) (J : Ins) (l : Letter) (d : Desk) where
 
 -- a letter whose ref belongs to a transfer, or to none
 pub marked-agrees : (a : Marks) (v : Option ℕ) (l : Letter) (d : Desk) →
-    Says (marked a d.post.next_ref v) l.from d.post.next_ref l.your_ref l.body → Agrees a d →
+    Says (marked a d.post.next_ref v) l.from d.post.next_ref l.your_ref (read_body l.body) → Agrees a d →
     OnGrant (Agrees (marked a d.post.next_ref v)) (send_letter l d)
 marked-agrees a v l d says g =
     let b : Marks = marked a d.post.next_ref v in
@@ -336,7 +392,7 @@ marked-agrees a v l d says g =
     })
 
 -- a letter that belongs to none
-pub plain-agrees : (a : Marks) (l : Letter) (d : Desk) → Says a l.from d.post.next_ref l.your_ref l.body → Agrees a d →
+pub plain-agrees : (a : Marks) (l : Letter) (d : Desk) → Says a l.from d.post.next_ref l.your_ref (read_body l.body) → Agrees a d →
     OnGrant (Agrees a) (send_letter l d)
 plain-agrees a l d says g = letter-agrees a (InAgrees a) l d (record {
   born = λ i low. g.born i (omega (arith, low));
@@ -345,3 +401,17 @@ plain-agrees a l d says g = letter-agrees a (InAgrees a) l d (record {
   mail = g.mail;
   says = says;
 })
+
+-- a letter of a task with code of its own, by which nothing is said
+pub given-agrees : (a : Marks) (l : Letter) (d : Desk) → Agrees a d →
+    OnGrant (Agrees (given a d.post.next_ref)) (send_letter l d)
+given-agrees a l d g =
+    let b : Marks = given a d.post.next_ref in
+    let more = given-grows a d.post.next_ref in
+    letter-agrees b (InAgrees b) l d (record {
+      born = λ i low. g.born i (omega (arith, low));
+      unloaded = g.unloaded;
+      of_tasks = tasks-grow a b more (InAgrees a) (InAgrees b) (in-grows a b more (λ r i has. has)) d.tasks g.of_tasks;
+      mail = mail-grows a b more (λ r i has. has) d.post.queued g.mail;
+      says = λ plays. absurd (let z : Bool.true ≡ false = sym (given-here a d.post.next_ref) ∙ plays in (cc));
+    })

@@ -1,5 +1,5 @@
 -- What holds of transfers whose sender says Done while messages go back, tasks begin and end, and transfers are given up.
-use Rattle.rh_laws.proofs.Common.{Bool, Has, List, None, Option, Some, [], inl, inr, put_other, refl, subst, sym, ℕ, ◌∙◌, ◌≡◌, ◌⊎◌}
+use Rattle.rh_laws.proofs.Common.{Bool, true, false, if◌then◌else◌, Has, List, None, Option, Some, [], inl, inr, put_other, refl, subst, sym, ℕ, ◌∙◌, ◌≡◌, ◌⊎◌}
 use Rattle.rh_safety.proofs.Basics.{Has-append, Has-left}
 use Rattle.rh_safety.proofs.Ends.{Asking, Draining, Fetching, In, In_done, In_failed, Message, Out, Out_failed, cancelled, in_id}
 use Rattle.rh_safety.proofs.Invariant.{Unread}
@@ -51,10 +51,10 @@ killed-matched d k sc f = edit-matched (record {
   ];
 }) f
 
-pub started-matched : (d : Desk) (buf : ℕ) (deaf no_fetch : Bool) → Matched d → Matched (started d buf deaf no_fetch)
-started-matched d buf deaf no_fetch f = edit-matched (record {
-  on = λ ref. started-on d buf deaf no_fetch (part ref 0 0);
-  knows = started_known d buf deaf no_fetch;
+pub started-matched : (d : Desk) (buf : ℕ) (deaf no_fetch raw : Bool) → Matched d → Matched (started d buf deaf no_fetch raw)
+started-matched d buf deaf no_fetch raw f = edit-matched (record {
+  on = λ ref. started-on d buf deaf no_fetch raw (part ref 0 0);
+  knows = started_known d buf deaf no_fetch raw;
   taking = λ r v has. (v, (none_left d.taking d.next_handle r v has, unchanged refl));
   sending = λ s v has. inl (none_left d.sending d.next_handle s v has);
   room = λ r v has. elim (at_put d.taking d.next_handle [] r v has) [ inl z ↦ absurd z.1 | inr z ↦ put_other d.buf d.next_handle buf r z.0 ];
@@ -81,7 +81,11 @@ pub failed-matched : (d : Desk) (sd : ℕ → List Out) →
 failed-matched d sd outs f = records-matched d sd d.taking (λ r v has. (v, (has, unchanged refl))) outs f
 
 cancelled-like : (x : In) → Like x (cancelled x)
-cancelled-like (Fetching f) = drains f refl refl
+cancelled-like (Fetching f) = by f.raw
+  where
+    by : (b : Bool) → Like (Fetching f) (if b then In_failed f.id f.anchor f.count else Draining f)
+    by true = fails f.id f.anchor f.count refl refl
+    by false = drains f refl refl
 cancelled-like (Draining f) = unchanged refl
 cancelled-like (Asking q) = fails q.id q.anchor 0 refl refl
 cancelled-like (In_done i a n) = unchanged refl

@@ -1,7 +1,7 @@
 -- Where a sender's record says Done, each record of the transfer has ended or its last transmit is queued, of each desk that a
 -- run reaches.
-use Rattle.rh_laws.proofs.Common.{Body, Desk, Edits, Good, Has, Incoming, List, Offers, Parcel, Some, Taking, Task, [], action_of, after, after-is, ap, arith}
-use Rattle.rh_laws.proofs.Common.{contains_of, false, field_is, first_is, has_of, in_id, is_equal, length, refl, same_value, seen_parcel, start-is, start_with}
+use Rattle.rh_laws.proofs.Common.{Body, Desk, Edits, Good, Has, Incoming, List, Offers, Parcel, Some, Taking, Task, [], action_of, after, ap, arith}
+use Rattle.rh_laws.proofs.Common.{contains_of, false, field_is, first_is, has_of, in_id, is_equal, length, refl, same_value, seen_parcel, start_with}
 use Rattle.rh_laws.proofs.Common.{subst, sym, task_at, view, ℕ, ◌+◌, ◌==◌, ◌∙◌, ◌≡◌}
 use Rattle.std.specs.List.{Contains}
 use Rattle.rh_defs.specs.declared.message.Action.TheVariants as action
@@ -11,13 +11,13 @@ use Rattle.rh_defs.specs.declared.transfer.Outgoing.TheVariants as outgoing
 use Rattle.rh_defs.specs.Records.{is_going}
 use Rattle.rh_safety.proofs.Ends.{Message, Out_done, RamTransmit}
 use Rattle.rh_safety.proofs.Invariant.{Counted}
-use Rattle.rh_safety.proofs.SeenLaws.{good_after, kept_good}
 use Rattle.rh_safety.proofs.View.{address_in, amount_in}
 use Rattle.rh_laws.specs.SendersDone.{AlwaysMatches, HasEnded, IsFinal, Matches}
 use Rattle.rh_laws.specs.Progress.{rounds_of}
 use Rattle.rh_laws.proofs.DonePairs.{has-map}
 use Rattle.rh_laws.proofs.Dones.{Ends, Final, IsQueued}
-use Rattle.rh_laws.proofs.RestLaws.{Goes_on, after-goes_on, always-goes_on, always-settles}
+use Rattle.rh_laws.proofs.PlayedDesks.{rounds_none}
+use Rattle.rh_laws.proofs.RestLaws.{Goes_on, after-goes_on, always-goes_on, always-settles, good-of}
 
 -- the bytes and the buffer of a transmit
 transmit-of : (b : Body) → action_of b ≡ action.RamTransmit → b ≡ body.RamTransmit (address_in b) (amount_in b)
@@ -27,6 +27,7 @@ transmit-of (body.DataSaveAck f) e = absurd cc
 transmit-of (body.DataLoad f) e = absurd cc
 transmit-of (body.DataLoadAck f) e = absurd cc
 transmit-of (body.RamFetch buffer n) e = absurd cc
+transmit-of (body.Other o) e = absurd cc
 
 module _ {o : Offers} {e : Edits} (d : Desk) (good : Good o e (view d)) (goes : Goes_on (view d)) where
   module _ (s r id n : ℕ) (t u : Task) (w : Incoming) (at_s : task_at s d ≡ Some t) (done : Contains t.sending (outgoing.Done id n))
@@ -92,18 +93,16 @@ ended d s r n (incoming.Done i k count) x going = x
 ended d s r n (incoming.Failed i k count) x going = x
 
 pub always-matches : AlwaysMatches
-always-matches pool handle ref files commands from ranged =
+always-matches pool handle ref files commands from ranged none =
     let start : Desk = start_with pool files handle ref in
     let d : Desk = after start commands in
-    let here = always-goes_on pool handle ref files commands from ranged in
-    let good = good_after pool handle ref files commands from ranged in
-    let is = after-is start commands ranged (start-is pool handle ref files from) in
+    let here = always-goes_on pool handle ref files commands from ranged none in
     record {
-      now = matches d good here.1;
+      now = matches d (good-of d here) here.goes;
       rests = λ rounds in_rounds names few s r id n t u w at_s done at_r has same.
-          let end = after-goes_on (rounds_of rounds) in_rounds d good is here.0 here.1 in
-          let settled = always-settles pool handle ref files commands from ranged rounds in_rounds names few in
+          let end = after-goes_on (rounds_of rounds) in_rounds (rounds_none rounds) d here in
+          let settled = always-settles pool handle ref files commands from ranged none rounds in_rounds names few in
           ended (after d (rounds_of rounds)) s u n w
-          (matches (after d (rounds_of rounds)) (kept_good (rounds_of rounds) in_rounds d good is) end.1 s r id n t u w at_s done at_r has same)
+          (matches (after d (rounds_of rounds)) (good-of (after d (rounds_of rounds)) end) end.goes s r id n t u w at_s done at_r has same)
           (settled.comes r u w at_r has);
     }

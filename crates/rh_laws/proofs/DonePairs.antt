@@ -1,15 +1,20 @@
 -- Both ends of a transfer, of each desk that agrees with what was offered and with what was loaded.
-use Rattle.rh_laws.proofs.Common.{Acknowledge, Body, Command, Desk, Edits, EventCode, Fits, Good, Has, Incoming, List, None, Offers, Option, Parcel, Recorded}
+use Rattle.rh_laws.proofs.Common.{Acknowledge, Body, Command, Desk, Edits, EventCode, Fits, Has, Incoming, List, None, Offers, Option, Parcel, Recorded}
 use Rattle.rh_laws.proofs.Common.{Sending, Some, Task, User, [], action_of, after, all_in_range, ap, false, first_is, in_id, in_range, inl, inr, is_equal, map}
 use Rattle.rh_laws.proofs.Common.{refl, same_value, seen_parcel, step, subst, sym, task_of, true, view, ℕ, ◌==◌, ◌∙◌, ◌∷◌, ◌≡◌}
+use Rattle.rh_defs.specs.AnyMessage.{read_body}
 use Rattle.rh_defs.specs.Records.{is_going}
 use Rattle.rh_defs.specs.declared.message.Action.TheVariants as action
 use Rattle.rh_defs.specs.declared.message.Body.TheVariants as body
 use Rattle.rh_defs.specs.declared.transfer.Incoming.TheVariants as incoming
 use Rattle.rh_safety.specs.Counts.{is_done}
+use Rattle.rh_safety.specs.RawIds.{Gave, gave_next}
 use Rattle.rh_safety.specs.Refs.{HaveOwnRefs}
 use Rattle.rh_safety.proofs.Ends.{Message, Open}
 use Rattle.rh_safety.proofs.Invariant.{Unread}
+use Rattle.rh_safety.proofs.Keeps.{Stands}
+use Rattle.rh_safety.proofs.Played.{Plays, step_same}
+use Rattle.rh_safety.proofs.SeenKeys.{keys_of}
 use Rattle.rh_safety.proofs.View.{field, of}
 use Rattle.rh_laws.specs.Addressed.{Addresses, From, Parties, addresses_next}
 use Rattle.rh_laws.proofs.Addresses as addressing
@@ -19,24 +24,29 @@ use Rattle.rh_laws.proofs.Deliveries as deliveries
 use Rattle.rh_laws.proofs.Deliveries.{Comes, Loaded, Marks, Says}
 use Rattle.rh_laws.proofs.DeliveryLaws as delivery_laws
 use Rattle.rh_laws.proofs.DonePolls.{Pairs}
+use Rattle.rh_laws.proofs.PlayedDesks.{no_one}
 
--- the desk agrees with some run, and live refs differ from then on
+-- the desk agrees with some run in which no task with code of its own sent anything, and live refs differ from then on
 pub record Agreed (d : Desk) : Type 0 where
   pub addresses : Addresses
   pub addressed : addressing.Agrees addresses d
   pub marks : Marks
   pub loaded : deliveries.Agrees marks d
+  pub none : marks.raw ≡ no_one
   pub refs : (commands : List Command) → all_in_range commands ≡ true → HaveOwnRefs (after d commands)
 
-pub step-agreed : {o : Offers} {e : Edits} (d : Desk) → Fits d → Good o e (view d) → Agreed d → (c : Command) →
-    in_range c ≡ true → Agreed (step d c).0
-step-agreed d fit good a c in_c = let x = delivery_laws.step-agrees a.marks d fit a.loaded good c in record {
-  addresses = addresses_next a.addresses d c (step d c).1;
-  addressed = address_laws.step-agrees a.addresses d a.addressed c;
-  marks = x.marks;
-  loaded = x.desk;
-  refs = λ cs in_cs. a.refs (c ∷ cs) (rw (in_c, in_cs) refl);
-}
+pub step-agreed : {o : Offers} {e : Edits} (d : Desk) → Fits d → Stands o e no_one (view d) → Plays (keys_of d.tasks) → Agreed d →
+    (c : Command) → in_range c ≡ true → Agreed (step d c).0
+step-agreed {o} {e} d fit stands all a c in_c =
+    let here : Stands o e a.marks.raw (view d) = subst (λ (S : Gave). Stands o e S (view d)) (sym a.none) stands in
+    let x = delivery_laws.step-agrees a.marks d fit a.loaded here c in record {
+      addresses = addresses_next a.addresses d c (step d c).1;
+      addressed = address_laws.step-agrees a.addresses d a.addressed c;
+      marks = x.marks;
+      loaded = x.desk;
+      none = x.raw ∙ ap (λ (S : Gave). gave_next S d c (step d c).1) a.none ∙ step_same d all no_one c;
+      refs = λ cs in_cs. a.refs (c ∷ cs) (rw (in_c, in_cs) refl);
+    }
 
 -- the task that has a record
 task-with : {A : Type 0} (f : Task → List A) (h : ℕ) (tasks : List Task) (v : A) → Has v (field f [] tasks h) →
@@ -82,16 +92,32 @@ module _ (d : Desk) (a : Agreed d) where
   home s x r w has there same =
       ap (λ (p : Parties). p.receiver) (same_value (a.addresses x.id) (ap a.addresses (sym same) ∙ (taken-from r w there).1) (offered-to s x has))
 
+  -- no ref is theirs
+  ours : (ref : ℕ) → a.marks.raw ref ≡ false
+  ours ref = ap (λ (S : Gave). S ref) a.none
+
   -- a DataLoadAck that answers a record's last message is of its transfer
   says-loaded : (x : Sending) → a.marks.of_ref x.last ≡ Some x.id → (from my your : ℕ) (b : Body) → action_of b ≡ action.DataLoadAck → your ≡ x.last →
       Says a.marks from my your b → Loaded a.marks from x.id
-  says-loaded x is from my your (body.DataLoadAck file) kind same (i, of_i, loaded) =
-      subst (Loaded a.marks from) (same_value (a.marks.of_ref x.last) (ap a.marks.of_ref (sym same) ∙ of_i) is) loaded
+  says-loaded x is from my your (body.DataLoadAck file) kind same says =
+      let l = says (ours my) in
+      subst (Loaded a.marks from) (same_value (a.marks.of_ref x.last) (ap a.marks.of_ref (sym same) ∙ l.1 (ours your)) is) l.2
   says-loaded x is from my your (body.DataSave file) kind same says = absurd cc
   says-loaded x is from my your (body.DataSaveAck file) kind same says = absurd cc
   says-loaded x is from my your (body.DataLoad file) kind same says = absurd cc
   says-loaded x is from my your (body.RamFetch buffer n) kind same says = absurd cc
   says-loaded x is from my your (body.RamTransmit buffer n) kind same says = absurd cc
+  says-loaded x is from my your (body.Other o) kind same says = absurd cc
+
+  -- one of the six kinds is read as it is
+  read-kind : (b : Body) → action_of b ≡ action.DataLoadAck → action_of (read_body b) ≡ action.DataLoadAck
+  read-kind (body.DataLoadAck file) kind = kind
+  read-kind (body.DataSave file) kind = kind
+  read-kind (body.DataSaveAck file) kind = kind
+  read-kind (body.DataLoad file) kind = kind
+  read-kind (body.RamFetch buffer n) kind = kind
+  read-kind (body.RamTransmit buffer n) kind = kind
+  read-kind (body.Other o) kind = absurd cc
 
   told : (m : Message) → Has m (view d).queue → Unread m → m.letter.kind ≡ action.DataLoadAck → (s : ℕ) (x : Sending) → Has (Open x) ((view d).sending s) →
       m.letter.answers ≡ x.last → m.letter.from ≡ x.recipient → (r : ℕ) (w : Incoming) → Has w ((view d).taking r) → in_id w ≡ x.id → is_going w ≡ false
@@ -107,17 +133,20 @@ module _ (d : Desk) (a : Agreed d) where
       last = let y = task-with (λ t. t.sending) s d.tasks (Open x) open_ in
           all-has (deliveries.OutAgrees a.marks) y.0.sending (Open x) (delivery_laws.own-of d a.loaded s y.0 y.1.0).outs y.1.1
 
-      ended : Comes a.marks p → is_going w ≡ false
+      Came : Type 0
+      Came = Comes a.marks p.to p.message.from p.message.my_ref p.message.your_ref (read_body p.message.body)
+
+      ended : Came → is_going w ≡ false
       ended c =
-          let l = says-loaded x last p.message.from p.message.my_ref p.message.your_ref p.message.body
-          (ap (λ (q : Message). q.letter.kind) z.1.1 ∙ kind) (ap (λ (q : Message). q.letter.answers) z.1.1 ∙ answers) c.says in
+          let l = says-loaded x last p.message.from p.message.my_ref p.message.your_ref (read_body p.message.body)
+          (read-kind p.message.body (ap (λ (q : Message). q.letter.kind) z.1.1 ∙ kind)) (ap (λ (q : Message). q.letter.answers) z.1.1 ∙ answers) c.says in
           let to : p.message.from ≡ r = ap (λ (q : Message). q.letter.from) z.1.1 ∙ from ∙ sym (home s x r w open_ there same) in
           let y = task-with (λ t. t.taking) r d.tasks w there in
           done-ended w (delivery_laws.loaded-done a.marks r x.id w
           (all-has (deliveries.InAgrees a.marks r) y.0.taking w (delivery_laws.own-of d a.loaded r y.0 y.1.0).ins y.1.1) same
           (subst (λ j. Loaded a.marks j x.id) to l))
 
-      by : (c : EventCode) → p.code ≡ c → CodeAgrees c (Comes a.marks p) → is_going w ≡ false
+      by : (c : EventCode) → p.code ≡ c → CodeAgrees c Came → is_going w ≡ false
       by User e c = ended c
       by Recorded e c = ended c
       by Acknowledge e c = absurd (un (ap (λ (q : Message). q.code) (sym z.1.1) ∙ e))

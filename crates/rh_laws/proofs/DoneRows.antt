@@ -1,6 +1,7 @@
 -- A worked run whose sender says Done before its receiver does, and a sender that says so too soon, of which done_law fails.
 use Rattle.rh_laws.proofs.Common.{Desk, EventCode, Has, Incoming, List, None, Option, Outgoing, Parcel, Recorded, Some, String, Task, User, [], after, ap}
-use Rattle.rh_laws.proofs.Common.{contains_of, fresh, hex_on_literals, inl, inr, map, refl, script, subst, sym, task_at, with_sending, ◌++◌, ◌∙◌, ◌∷◌, ◌≡◌}
+use Rattle.rh_laws.proofs.Common.{contains_of, false, fresh, hex_on_literals, inl, inr, map, refl, script, subst, sym, task_at, with_sending, ◌++◌, ◌∙◌, ◌∷◌}
+use Rattle.rh_laws.proofs.Common.{◌≡◌}
 use Rattle.rh_safety.proofs.Basics.{has_of}
 use Rattle.rh_defs.specs.declared.transfer.Incoming.TheVariants as incoming
 use Rattle.rh_defs.specs.declared.transfer.Outgoing.TheVariants as outgoing
@@ -31,7 +32,7 @@ unfolding computing_script hex_on_literals
 says_done = refl
 
 still_fetches : taking_of (task_at 2 (after fresh (script twice_sent))) ≡
-    incoming.Fetching (record { id = 1; sender = 1; anchor = 0; buffer = 33044; count = 4; fetch = 4 }) ∷ []
+    incoming.Fetching (record { id = 1; sender = 1; anchor = 0; buffer = 33044; count = 4; fetch = 4; raw = false }) ∷ []
 unfolding computing_script hex_on_literals
 still_fetches = refl
 
@@ -55,7 +56,7 @@ abbrev wrong_desk : Desk
 wrong_desk = with_sending 1 (λ records. outgoing.Done 1 4 ∷ []) (after fresh (script once_sent))
 
 abbrev wrong_record : Incoming
-wrong_record = incoming.Fetching (record { id = 1; sender = 1; anchor = 0; buffer = 33044; count = 0; fetch = 2 })
+wrong_record = incoming.Fetching (record { id = 1; sender = 1; anchor = 0; buffer = 33044; count = 0; fetch = 2; raw = false })
 
 wrong_sending : sending_of (task_at 1 wrong_desk) ≡ outgoing.Done 1 4 ∷ []
 unfolding computing_script hex_on_literals

@@ -1,11 +1,11 @@
 -- What holds of each command: by which conditions it is refused, and that it does the same to a desk with its bytes renamed.
-use Rattle.rh_laws.proofs.Common.{◌≡◌, refl, ℕ, ◌^◌, length, ap, Command, NoBlock, NotABlock, BadRange, BadSize, NoBudge}
+use Rattle.rh_laws.proofs.Common.{◌∙◌, ◌≡◌, refl, ℕ, ◌^◌, length, ap, Command, NoBlock, NotABlock, BadRange, BadSize, NoBudge}
 use Rattle.rh_laws.proofs.Common.{NoRoom, Desk, free_pages, has_name, named, change, IsDesk, moved, length_with, slot_begin, slot_block, slot_extend}
 use Rattle.rh_laws.proofs.Common.{slot_free, slot_mid, slot_put, slot_release, slot_resize, alloc, budge, claim, extend, free, kill, load, make, mid}
 use Rattle.rh_laws.proofs.Common.{put, release, resize, start_task, ◌-◌, sym, subst}
 use Rattle.rh_laws.proofs.Common.{find, length-map, NoTask}
 use Rattle.rh_laws.proofs.Common.{slot_alloc, slot_claim, module_claim, save_letter}
-use Rattle.rh_laws.proofs.Common.{next_ref, send_letter, save, repeat, cancel_in, cancel_out, Follows}
+use Rattle.rh_laws.proofs.Common.{next_ref, send_letter, with_taking, save, repeat, cancel_in, cancel_out, Follows}
 use Rattle.rh_laws.proofs.Common.{follows-then, follows-equal}
 use Rattle.rh_defs.specs.declared.command.Command.TheVariants as command
 use Rattle.rh_defs.specs.Module.{module_free, module_resize}
@@ -18,13 +18,16 @@ use Rattle.rh_laws.proofs.RefusalSteps.{refused_then}
 use Rattle.rh_laws.proofs.Asked.{ask-goes, asked-renamed}
 use Rattle.rh_laws.proofs.RefusalSends.{cancel_in-goes, cancel_out-goes, poll-goes, repeat-goes, save-goes}
 use Rattle.rh_laws.proofs.RefusalAreas.{area-goes}
+use Rattle.rh_laws.proofs.RefusalRaws.{raw-goes}
 use Rattle.rh_laws.proofs.RefusalRoomLaws.{le_same, resize-short, room-same}
 use Rattle.rh_laws.proofs.RefusalCalls.{idle-then, idle_buffer-then, any-found, file_named, loaded, alloc-then, claim-then, module_claim-then}
 use Rattle.rh_laws.proofs.RefusalCalls.{own_block-then}
 use Rattle.rh_defs.specs.declared.refusal.Refusal.TheVariants.{NoFile}
 use Rattle.rh_defs.specs.declared.command.Command.TheVariants as command
 use Rattle.rh_defs.specs.declared.reply.Reply.TheVariants as reply
+use Rattle.rh_defs.specs.Commands.{with_released}
 use Rattle.rh_defs.specs.Desk.{module_start}
+use Rattle.rh_defs.specs.Receiver as receiver
 use Rattle.rh_defs.proofs.Follows.{follows-same}
 use Rattle.rh_laws.specs.Renaming.{renamed_slot, renamed_task, renamed, renamed_command}
 use Rattle.rh_laws.proofs.RenamedParts.{By, follows-by, found-by, find-map}
@@ -33,6 +36,7 @@ use Rattle.rh_laws.proofs.RenamedSlots.{slot_extend-renamed, slot_mid-renamed, s
 use Rattle.rh_laws.proofs.RenamedDesks.{renamed_with, free-renamed, where-free, named-renamed, idle_block-renamed, idle_buffer-renamed}
 use Rattle.rh_laws.proofs.RenamedDesks.{with_task-renamed, send_letter-renamed}
 use Rattle.rh_laws.proofs.RenamedPolls.{poll-renamed}
+use Rattle.rh_laws.proofs.RenamedRaws.{letter-renamed, raw-renamed, released-renamed}
 use Rattle.rh_laws.proofs.RenamedSteps.{slot-back, is_file, renamed_file, start_task-renamed, kill-renamed, change_area-renamed}
 
 -- ---- refusals
@@ -98,6 +102,7 @@ change-goes d is (command.RmaResize address delta) =
     in_steps _ _ _ _ (refused_if _ _ NoRoom _ _ (ap (λ (x : ℕ). lacks x d) short) λ fits.
     granted_then _ _ _ _ refl (done _ refl)))))
 change-goes d is (command.Ask q) = ask-goes d q
+change-goes d is (command.Raw c) = raw-goes d is c
 
 -- ---- bytes that are renamed
 
@@ -154,18 +159,23 @@ module _ (f : ℕ → ℕ) (zero-is : f 0 ≡ 0) where
       follows-by _ _ (found-by (renamed_task f) (find (has_name to) d.tasks) _ NoTask (find-map (has_name to) (renamed_task f) (λ u. refl) d.tasks)) λ r.
       follows-by _ _ (subst (λ n. Follows (By (renamed f)) (send_letter (save_letter t.handle r.handle (length b.here.bytes) leaf) d) (send_letter
       (save_letter t.handle r.handle n leaf) (renamed f d))) (sym (length-map b.here.bytes f))
-      (send_letter-renamed f (save_letter t.handle r.handle (length b.here.bytes) leaf) d)) λ sent.
-      Follows.both (ap (λ (e : Desk). (e, reply.Sent (next_ref d))) (with_task-renamed f t.handle _ _ sent (λ u. refl))))
+      (send_letter-renamed f (save_letter t.handle r.handle (length b.here.bytes) leaf) d)) λ sent. follows-then _ _ _ (
+      Follows.both (ap (λ (e : Desk). (e, reply.Sent (next_ref d))) (with_task-renamed f t.handle _ _ sent (λ u. refl)))))
   change-renamed d (command.Poll name) = poll-renamed f zero-is d name
   change-renamed d (command.CancelIn name id) =
       follows-by _ _ (named-renamed f name d) λ t. follows-same _ _ _ λ records.
-      Follows.both (ap (λ (e : Desk). (e, reply.Done)) (with_task-renamed f t.handle _ _ d (λ u. refl)))
+      Follows.both (
+      ap (λ (e : Desk). (with_taking t.handle (λ old. records) e, reply.Done)) (released-renamed f zero-is t.handle (receiver.released_by id t.taking) d)
+      ∙ ap (λ (e : Desk). (e, reply.Done))
+      (with_task-renamed f t.handle _ _ (with_released t.handle (receiver.released_by id t.taking) d) (λ u. refl))
+      )
   change-renamed d (command.CancelOut name id) =
       follows-by _ _ (named-renamed f name d) λ t. follows-same _ _ _ λ records.
       Follows.both (ap (λ (e : Desk). (e, reply.Done)) (with_task-renamed f t.handle _ _ d (λ u. refl)))
   change-renamed d (command.Repeat name) =
       follows-by _ _ (named-renamed f name d) λ t. follows-same _ _ _ λ last.
-      follows-by _ _ (send_letter-renamed f (record last.0 { from = t.handle }) d) λ sent. Follows.both refl
+      follows-by _ _ (send_letter-renamed f (record last.0 { from = t.handle }) d) λ sent.
+      Follows.both (ap (λ (e : Desk). (e, reply.Sent (next_ref d))) (letter-renamed f t.manner sent))
   change-renamed d (command.Area k delta) = change_area-renamed f d k delta
   change-renamed d (command.Make most) = follows-then _ _ _ (follows-then _ _ _ (Follows.both refl))
   change-renamed d (command.Remove k) = follows-same _ _ _ λ m. Follows.both refl
@@ -174,4 +184,5 @@ module _ (f : ℕ → ℕ) (zero-is : f 0 ≡ 0) where
   change-renamed d (command.RmaResize address delta) =
       follows-same _ _ _ λ b. follows-equal _ _ _ _ (ap (λ m. module_resize m (address - module_start) delta d.post.heap)
       (free-renamed f d)) λ c. Follows.both refl
+  change-renamed d (command.Raw c) = raw-renamed f zero-is d c
   change-renamed d (command.Ask q) = follows-by _ _ (asked-renamed f d q) λ told. Follows.both refl

@@ -1,6 +1,6 @@
 -- Worked runs of what commands leave of other tasks, and runs with one definition changed, on which frame_law fails.
 use Rattle.rh_laws.proofs.Common.{◌≡◌, ℕ, List, [], ◌∷◌, ◌++◌, Option, Some, None, map, refl, sym, ap, ◌∙◌, subst, inl, inr, nat_lt, codes, filter}
-use Rattle.rh_laws.proofs.Common.{find, Ok, option_map, hex_on_literals, String, NotOpen, Reply, Taking, Incoming, Granted, ◌>>=◌, found_or, or_else}
+use Rattle.rh_laws.proofs.Common.{find, false, Ok, option_map, hex_on_literals, String, NotOpen, Reply, Taking, Incoming, Granted, ◌>>=◌, found_or, or_else}
 use Rattle.rh_laws.proofs.Common.{Segment, Used, in_id, with_id, Desk, Task, named, task_at, with_taking, Answer, kill, after, step, Has, has_of, fresh}
 use Rattle.rh_laws.proofs.Common.{script, Rules, landed, run_of}
 use Rattle.rh_defs.specs.declared.reply.Reply.TheVariants as reply
@@ -91,6 +91,7 @@ right_buffer : heap_and_records landed (claimed ++ "poll a" ∷ []) ≡ Some (
     buffer = 0x8114;
     count = 0;
     fetch = 2;
+    raw = false;
   }) ∷ [],
 )
 unfolding computing_script hex_on_literals

@@ -7,15 +7,19 @@ pub mod Lengths
 pub mod Spelled
 pub mod PrinterRows
 pub mod Asked
+pub mod CancelLaws
 pub mod RefusalSteps
 pub mod RefusalRoomLaws
 pub mod RefusalCalls
 pub mod RefusalSends
+pub mod RefusalRaws
 pub mod RefusalAreas
 pub mod EachCommand
 pub mod RefusalLaw
 pub mod RefusalRows
 pub mod HonestHeapLaws
+pub mod GivenRefs
+pub mod PlayedDesks
 pub mod HonestClaims
 pub mod HonestRows
 pub mod Addresses
@@ -29,6 +33,8 @@ pub mod DeliveryLaws
 pub mod DeliveredRows
 pub mod Frames
 pub mod FramePolls
+pub mod FrameSends
+pub mod FrameReaches
 pub mod FrameRows
 pub mod ScrapStages
 pub mod ScrapViews
@@ -50,6 +56,7 @@ pub mod DoneEdits
 pub mod DoneDeeds
 pub mod DonePolls
 pub mod DonePairs
+pub mod AtRest
 pub mod RestLaws
 pub mod RestRows
 pub mod LiveLaws
@@ -64,6 +71,7 @@ pub mod RenamedSlots
 pub mod RenamedDesks
 pub mod RenamedSteps
 pub mod RenamedPolls
+pub mod RenamedRaws
 pub mod RenamedLaws
 pub mod RenamedRows
 pub mod Accounts
@@ -75,4 +83,8 @@ pub mod ShownSlots
 pub mod ShownPolls
 pub mod ShownLaws
 pub mod ShownRows
+pub mod PartnerLaws
+pub mod MovedLaws
+pub mod RawLawRows
+pub mod FileSteps
 pub mod Common

@@ -3,9 +3,11 @@ use Rattle.rh_laws.proofs.Common.{◌≡◌, ℕ, Bool, true, false, ◌&&◌, L
 use Rattle.rh_laws.proofs.Common.{slice_index, Some, Ok, join_with_byte, Command, Unknown}
 use Rattle.rh_laws.proofs.Common.{space, GrammarRow, rows, grammar_row, is_skipped, longest_line, line_means, in_range, and_left, and_right}
 use Rattle.rh_defs.specs.declared.command.Command.TheVariants as command
+use Rattle.rh_defs.specs.declared.raw_command.RawCommand.{RawCommand}
+use Rattle.rh_defs.specs.declared.raw_command.RawCommand.TheVariants as raw
 use Rattle.rh_defs.specs.declared.question.Question.{Question}
 use Rattle.rh_defs.specs.declared.question.Question.TheVariants as question
-use Rattle.rh_defs.specs.Grammar.{Form, Values, Spelling, spelled_by, spelling, question_spelling}
+use Rattle.rh_defs.specs.Grammar.{Form, Values, Spelling, spelled_by, spelling, question_spelling, raw_spelling}
 use Rattle.rh_defs.specs.Range.{is_of, all_of, can_be_read}
 use Rattle.rh_defs.proofs.GrammarLaws.{made, made_of, spelling-made}
 use Rattle.rh_laws.specs.Printer.{texts, words_spelled, command_words, is_sized, are_sized, is_typed, has_sizes, line_of, fits_a_line, AreRead}
@@ -30,9 +32,15 @@ unfolding rows
 asked-stands (question.Show name k) = record { clear = refl; said = refl; found = refl }
 asked-stands q = record { clear = refl; said = refl; found = refl }
 
+raw-stands : (c : RawCommand) → Stands (raw_spelling c)
+unfolding rows
+raw-stands (raw.Ack name) = record { clear = refl; said = refl; found = refl }
+raw-stands c = record { clear = refl; said = refl; found = refl }
+
 command-stands : (c : Command) → Stands (spelling c)
 unfolding rows
 command-stands (command.Ask q) = asked-stands q
+command-stands (command.Raw c) = raw-stands c
 command-stands c = record { clear = refl; said = refl; found = refl }
 
 -- ---- values that are read again

@@ -1,4 +1,4 @@
--- After any commands no record waits in vain: what records are seen to wait for, said of the desk.
+-- After any commands that start no task with code of its own no record waits in vain: what records are seen to wait for, said of the desk.
 use Rattle.rh_laws.proofs.Common.{Body, Bool, Desk, Good, Has, Incoming, List, Manner, Message, None, Option, Outgoing, Parcel, Some, Task, [], action_of}
 use Rattle.rh_laws.proofs.Common.{after, answers_none, ap, contains_of, false, field_is, has_of, held_by, if◌then◌else◌, inl, inr, map, none_some, option_map}
 use Rattle.rh_laws.proofs.Common.{refl, start_with, subst, sym, true, ℕ, ◌&&◌, ◌==◌, ◌∙◌, ◌∷◌, ◌≡◌, ◌≤◌}
@@ -7,12 +7,12 @@ use Rattle.rh_defs.specs.declared.message.Body.TheVariants.{DataLoad, DataLoadAc
 use Rattle.rh_safety.proofs.Basics.{not_true}
 use Rattle.rh_safety.proofs.Ends.{Asking, Draining, Edits, Fetching, Offers, Open}
 use Rattle.rh_safety.proofs.Invariant.{IsLive}
-use Rattle.rh_safety.proofs.SeenLaws.{good_after}
 use Rattle.rh_safety.proofs.View.{address_in, amount_in, seen_parcel, seen_scrap, task_of, view}
 use Rattle.rh_safety.proofs.Sight as sight
 use Rattle.rh_laws.specs.LiveEnds.{AlwaysHasLiveEnds, AsksForFile, ComesAlive, GoesAlive, HasLiveEnds, IsAlive, IsFetch, IsLoad, IsOwn, IsReply, IsSent}
 use Rattle.rh_laws.specs.LiveEnds.{IsTransmit, LoadsScrap}
-use Rattle.rh_laws.proofs.RestLaws.{always-goes_on, offered_only}
+use Rattle.rh_laws.proofs.AtRest.{offered_only}
+use Rattle.rh_laws.proofs.RestLaws.{always-goes_on, good-of}
 use Rattle.rh_laws.proofs.Wants.{AllWait, Asks, HasWant, Ours, Tells, WaitsFor, Want, file, is_sent, part, peer_of, ref_of, reply}
 
 -- ---- what is seen of a list, or of what there may be
@@ -169,8 +169,9 @@ live_ends d good all = record {
       goes_alive d good all h t at x (subst (Has x) (sym (field_is (λ y. y.sending) [] h d.tasks t at)) (has_of t.sending x has));
 }
 
--- each desk that a run reaches
+-- each desk that such a run reaches
 pub always-has-live-ends : AlwaysHasLiveEnds
-always-has-live-ends pool handle ref files commands from ranged =
-    live_ends (after (start_with pool files handle ref) commands) (good_after pool handle ref files commands from ranged)
-    (always-goes_on pool handle ref files commands from ranged).1.waits
+always-has-live-ends pool handle ref files commands from ranged none =
+    let d : Desk = after (start_with pool files handle ref) commands in
+    let here = always-goes_on pool handle ref files commands from ranged none in
+    live_ends d (good-of d here) here.goes.waits

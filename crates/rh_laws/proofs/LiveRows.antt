@@ -1,6 +1,6 @@
 -- Worked runs of what records wait for, and a poll after which what was held is gone, on which live_law fails.
 use Rattle.rh_laws.proofs.Common.{Body, Desk, Has, Incoming, List, None, Option, Outgoing, Parcel, Post, Seat, Some, String, Task, [], after, contains_of}
-use Rattle.rh_laws.proofs.Common.{fresh, has_of, held_by, hex_on_literals, inl, map, none_some, refl, script, subst, sym, task_at, with_delivered}
+use Rattle.rh_laws.proofs.Common.{false, fresh, has_of, held_by, hex_on_literals, inl, map, none_some, refl, script, subst, sym, task_at, with_delivered}
 use Rattle.rh_laws.proofs.Common.{ℕ, ◌++◌, ◌∷◌, ◌≡◌}
 use Rattle.std.specs.List.{flat_map}
 use Rattle.rh_defs.specs.Post.{put_down}
@@ -9,7 +9,7 @@ use Rattle.rh_defs.specs.declared.transfer.Outgoing.TheVariants as outgoing
 use Rattle.rh_defs.specs.Inner.Computing.{computing_script}
 use Rattle.rh_laws.specs.LiveEnds.{HasLiveEnds, IsAlive}
 use Rattle.rh_laws.specs.Progress.{IsAtRest}
-use Rattle.rh_laws.proofs.RestLaws.{rest-held}
+use Rattle.rh_laws.proofs.AtRest.{rest-held}
 
 -- the ref that a record waits by, where it waits
 abbrev out_ref : Outgoing → List ℕ
@@ -72,7 +72,7 @@ abbrev wrong_desk : Desk
 wrong_desk = let d : Desk = after fresh (script file_offered) in with_delivered (put_down 1 d.post) d
 
 abbrev wrong_record : Incoming
-wrong_record = incoming.Fetching (record { id = 1; sender = 1; anchor = 0; buffer = 33044; count = 0; fetch = 2 })
+wrong_record = incoming.Fetching (record { id = 1; sender = 1; anchor = 0; buffer = 33044; count = 0; fetch = 2; raw = false })
 
 abbrev taking_of : Option Task → List Incoming
 taking_of None = []

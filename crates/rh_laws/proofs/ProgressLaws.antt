@@ -4,7 +4,7 @@ use Rattle.rh_laws.proofs.Common.{inr, arith, ◌==◌, ◌&&◌, find, if◌the
 use Rattle.rh_laws.proofs.Common.{NoName, Reply, Granted, ◌>>=◌, found_or, or_else, total, IsDesk, Parcel, Post, Seat, bounce_held, first_for, has_seat}
 use Rattle.rh_laws.proofs.Common.{held_by, post_poll, taken_from, all_in_range, in_range, Desk, Task, has_name, named, with_delivered, after, replies}
 use Rattle.rh_laws.proofs.Common.{start_with, poll, poll_taken, step, after-is, start-is, step-keeps, Edits, Has, Offers, and_left, and_right, first_is}
-use Rattle.rh_laws.proofs.Common.{has_of, none_some, Good, fits, keeps, found_task, task_of, view}
+use Rattle.rh_laws.proofs.Common.{has_of, none_some, fits, keeps, found_task, task_of, view}
 use Rattle.std.specs.List.{Contains}
 use Rattle.rh_defs.specs.declared.command.Command.TheVariants as command
 use Rattle.rh_defs.specs.declared.reply.Reply.TheVariants as reply
@@ -13,7 +13,10 @@ use Rattle.rh_defs.specs.Post.{taken}
 use Rattle.rh_safety.specs.Names.{HaveOwnNames}
 use Rattle.rh_safety.proofs.NameLaws.{always_own_names}
 use Rattle.rh_safety.proofs.SeenFrames.{HaveOwnSeats}
-use Rattle.rh_safety.proofs.SeenLaws.{good_after}
+use Rattle.rh_defs.specs.AnyMessage.{read_body}
+use Rattle.rh_safety.specs.RawIds.{Gave}
+use Rattle.rh_safety.proofs.Keeps.{Stands}
+use Rattle.rh_safety.proofs.SeenLaws.{stands_after}
 use Rattle.rh_safety.proofs.View.{of}
 use Rattle.rh_laws.specs.Progress.{AlwaysProgresses, IsAtRest, NamesAll, events, held_work, is_event, parcel_work, polls, post_work, rounds_of}
 use Rattle.rh_laws.proofs.Addresses.{all-has}
@@ -41,13 +44,15 @@ events-few r = go (is_event r)
 
 record Kept (o : Offers) (d : Desk) : Type 0 where
   edits : Edits
-  good : Good o edits (view d)
+  gave : Gave
+  stands : Stands o edits gave (view d)
   is : IsDesk d
 
 kept-polled : {o : Offers} (d : Desk) (name : List ℕ) → in_range (command.Poll name) ≡ true → Kept o d → Kept o (step d (command.Poll name)).0
 kept-polled d name ranged k = record {
   edits = k.edits;
-  good = keeps (command.Poll name) ranged d k.good (fits d k.is);
+  gave = k.gave;
+  stands = keeps (command.Poll name) ranged d k.stands (fits d k.is);
   is = step-keeps d (command.Poll name) ranged k.is;
 }
 
@@ -79,7 +84,7 @@ ran {o} (name ∷ names) d ranged k =
     let sends = z.sends in
     let more = events-more r (replies next (polls names)) in
     let few = events-few r in
-    elim (turn d name k.is k.good) [
+    elim (turn d name k.is k.stands) [
       | inl w ↦
           let less = w.work in
           let sent = w.next in
@@ -106,7 +111,7 @@ same-named : (name : List ℕ) (d e : Desk) → e.tasks ≡ d.tasks → named na
 unfolding named
 same-named name d e same = ap (λ ts. found_or (find (has_name name) ts) NoName) same
 
-found-named : (d : Desk) (name : List ℕ) (t : Task) → find (has_name name) d.tasks ≡ Some t → named name d ≡ Ok t
+pub found-named : (d : Desk) (name : List ℕ) (t : Task) → find (has_name name) d.tasks ≡ Some t → named name d ≡ Ok t
 unfolding named found_or
 found-named d name t found = ap (λ (v : Option Task). found_or v NoName) found
 
@@ -118,7 +123,7 @@ round {o} (name ∷ names) d ranged k =
     let rest = and_right (in_range (command.Poll name)) _ ranged in
     let next : Desk = (step d (command.Poll name)).0 in
     let after_one = kept-polled d name in_c k in
-    elim (turn d name k.is k.good) [
+    elim (turn d name k.is k.stands) [
       | inl w ↦
           let less = w.work in
           let falls = (ran names next rest after_one).falls in
@@ -147,7 +152,7 @@ all-from P [] each = tt
 all-from P (x ∷ xs) each = (each x (inl refl), all-from P xs (λ y has. each y (inr has)))
 
 -- what is there is found
-find-has : {A : Type 0} (p : A → Bool) (xs : List A) (x : A) → Has x xs → p x ≡ true → (y : A) × (find p xs ≡ Some y)
+pub find-has : {A : Type 0} (p : A → Bool) (xs : List A) (x : A) → Has x xs → p x ≡ true → (y : A) × (find p xs ≡ Some y)
 find-has p [] x has passes = absurd has
 find-has {A} p (y ∷ xs) x (inl same) passes = (y, let e : p y ≡ true = ap p same ∙ passes in rw e refl)
 find-has {A} p (y ∷ xs) x (inr has) passes = go (p y) (find-has p xs x has passes)
@@ -214,7 +219,7 @@ nothing-rests post none = record {
   where
     of_queue : (queue : List Parcel) → total parcel_work queue ≡ 0 → queue ≡ []
     of_queue [] e = refl
-    of_queue (p ∷ queue) e = absurd (let z = queued-some p.code p.message.body in omega (arith, z, e))
+    of_queue (p ∷ queue) e = absurd (let z = queued-some p.code (read_body p.message.body) in omega (arith, z, e))
 
     of_seats : (seats : List Seat) → total (λ (s : Seat). held_work s.holds) seats ≡ 0 → AllByRecursion (λ (s : Seat). s.holds ≡ None) seats
     of_seats [] e = tt
@@ -329,16 +334,16 @@ always-progresses pool handle ref files commands from ranged =
     let d : Desk = start_with pool files handle ref in
     let e : Desk = after d commands in
     let is : IsDesk e = after-is d commands ranged (start-is pool handle ref files from) in
-    let good = good_after pool handle ref files commands from ranged in
-    let k : Kept _ e = record { edits = _; good = good; is = is } in
+    let stands = stands_after pool handle ref files commands from ranged in
+    let k : Kept _ e = record { edits = _; gave = _; stands = stands; is = is } in
     let own : OwnAfter e = λ more in_range. subst HaveOwnNames (after-both d commands more)
     (always_own_names pool handle ref files (commands ++ more) from (ranged-both commands more ranged in_range)) in
-    let here = work-is e is good in
+    let here = work-is e is stands in
     record {
       falls = λ names in_range.
           let z = ran names e in_range k in
           let later = kept-after names e in_range k in
-          let there = work-is (after e (polls names)) later.is later.good in
+          let there = work-is (after e (polls names)) later.is later.stands in
           let falls = z.falls in
           record { falls = omega (arith, falls, here, there); sends = z.sends };
       rests = λ rounds in_range all few. rounds-rest rounds e in_range k own all (omega (arith, few, here));

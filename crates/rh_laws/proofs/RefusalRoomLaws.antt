@@ -4,7 +4,7 @@ use Rattle.rh_laws.proofs.Common.{inr, refl, sym, ap, ◌∙◌, arith, max, is_
 use Rattle.rh_laws.proofs.Common.{Letter, lacks_pages, Split, Segment, Used, Hole, Heap, base, first_place, hole_for, is_hole_for, largest_hole, need}
 use Rattle.rh_laws.proofs.Common.{place_after, resize_need, segment_size, size_of, way_to, Slot, lacks_room, slot_pages, leb_yes, leb_no}
 use borrow.Author.Tests.{leb-true, leb-false, ltb-true, ltb-false, eqb-false}
-use Rattle.rh_defs.specs.declared.message.Body.TheVariants.{DataSave, DataSaveAck, DataLoad, DataLoadAck, RamFetch, RamTransmit}
+use Rattle.rh_defs.specs.declared.message.Body.TheVariants.{DataSave, DataSaveAck, DataLoad, DataLoadAck, RamFetch, RamTransmit, Other}
 use Rattle.rh_defs.specs.Pieces.{pages_for, behind, first_at}
 use Rattle.rh_defs.specs.Heap.{Stays, Shrinks, GrowsIntoHole, GrowsAtTop, end_for, shortage_in, way_beyond, way_to_grow}
 use Rattle.rh_defs.specs.Module.{changed_length, whole_pages}
@@ -164,6 +164,7 @@ size-same l = go l.body
     go (DataLoadAck f) = let n = length-body (DataLoadAck f) in let m = length-name_bytes f.name in omega arith
     go (RamFetch buffer n) = let m = length-body (RamFetch buffer n) in omega arith
     go (RamTransmit buffer n) = let m = length-body (RamTransmit buffer n) in omega arith
+    go (Other o) = let m = length-body (Other o) in omega arith
 
 -- ---- areas
 

@@ -1,10 +1,11 @@
 -- Each command on messages, against its rows of the table.
-use Rattle.rh_laws.proofs.Common.{◌≡◌, ℕ, ◌^◌, Bool, true, false, cond, List, [], ◌∷◌, length, Option, Some, None, refl, sym, ap, ◌∙◌, arith, find, is_none}
+use Rattle.rh_laws.proofs.Common.{◌≡◌, ℕ, ◌^◌, Bool, true, false, cond, List, [], ◌∷◌, ◌++◌, length, Option, Some, None, refl, sym, ap, ◌∙◌, arith, find}
+use Rattle.rh_laws.proofs.Common.{is_none}
 use Rattle.rh_laws.proofs.Common.{is_some, not, ◌||◌, ◌==◌, if◌then◌else◌, list_any, NoTask, NoRoom, Busy, BadSize, Letter, Outgoing, Incoming}
 use Rattle.rh_laws.proofs.Common.{Granted, ◌>>=◌, save_letter, Parcel, module_claim, open_of, Seat, has_seat, post_poll, post_send, Desk, Task}
 use Rattle.rh_laws.proofs.Common.{has_name, named, next_ref, send_letter, task_at, with_delivered, Answer, cancel_in, cancel_out, poll}
 use Rattle.rh_laws.proofs.Common.{poll_taken, repeat, save, IsDesk, eqb_apart, eqb_same}
-use Rattle.rh_defs.specs.declared.refusal.Refusal.TheVariants.{NoRefs, QueueFull}
+use Rattle.rh_defs.specs.declared.refusal.Refusal.TheVariants.{NoRefs, QueueFull, WrongManner}
 use Rattle.rh_defs.specs.declared.command.Command.TheVariants as command
 use Rattle.rh_defs.specs.declared.transfer.Outgoing.TheVariants as outgoing
 use Rattle.rh_defs.specs.declared.transfer.Incoming.TheVariants as incoming
@@ -14,7 +15,7 @@ use Rattle.rh_defs.specs.Sender as sender
 use Rattle.rh_defs.specs.Receiver as receiver
 use Rattle.rh_defs.specs.Post.{message_of, sendable}
 use Rattle.rh_defs.specs.Laws.{seat_handles, task_handles}
-use Rattle.rh_laws.specs.RefusalOrder.{refusal_in}
+use Rattle.rh_laws.specs.RefusalOrder.{RefusalRow, refusal_in}
 use Rattle.rh_laws.specs.RefusalRooms.{lacks, message_size}
 use Rattle.rh_laws.specs.Conditions.{conditions, is_coming_one, is_open_one, lacks_module_room, send_rows}
 use Rattle.rh_laws.proofs.RefusalSteps.{GoesBy, done, drop_row, found_as, found_then, granted_then, in_steps, in_steps_both, one_row, passes, refused_if}
@@ -25,7 +26,7 @@ use Rattle.rh_laws.proofs.RefusalCalls.{idle-then}
 -- ---- who is live
 
 -- a handle has a seat where it is a live task's
-seat-of : (h : ℕ) (seats : List Seat) (tasks : List Task) → seat_handles seats ≡ task_handles tasks
+pub seat-of : (h : ℕ) (seats : List Seat) (tasks : List Task) → seat_handles seats ≡ task_handles tasks
     → has_seat h seats ≡ is_some (find (λ (t : Task). t.handle == h) tasks)
 seat-of h [] [] e = refl
 seat-of h [] (t ∷ tasks) e = absurd cc
@@ -87,10 +88,10 @@ none-open id (outgoing.Failed i n ∷ records) = none-open id records
 -- ---- letters
 
 module _ (d : Desk) (is : IsDesk d) where
-  send-then : (l : Letter) (next : Desk → Granted Answer) → ((u : Desk) → GoesBy (next u) [])
-      → GoesBy (send_letter l d >>= next) (send_rows (is_none (task_at l.to d)) (lacks_module_room (message_size l.body) d) d)
+  pub send-then : (l : Letter) (next : Desk → Granted Answer) (rows : List RefusalRow) → ((u : Desk) → GoesBy (next u) rows)
+      → GoesBy (send_letter l d >>= next) (send_rows (is_none (task_at l.to d)) (lacks_module_room (message_size l.body) d) d ++ rows)
   unfolding send_letter post_send sendable module_claim
-  send-then l next f =
+  send-then l next rows f =
       let big : (parcel_size (message_of l 0) == 0) ≡ false = eqb_apart (parcel_size (message_of l 0)) 0 (omega arith) in
       let size : parcel_size (message_of l 0) ≡ message_size l.body = size-same l in
       in_steps _ _ _ _ (in_steps_both _ _ _ _ (in_steps_both _ _ _ _
@@ -112,7 +113,8 @@ module _ (d : Desk) (is : IsDesk d) where
       found_then _ _ _ _ λ r live.
       drop_row NoTask (is_none (task_at r.handle d))
       (ap not (found-passes (has_name to) (λ (u : Task). u.handle == r.handle) d.tasks r live (same r.handle)))
-      (send-then (save_letter t.handle r.handle (length b.here.bytes) leaf) _ λ u. done _ refl)))
+      (send-then (save_letter t.handle r.handle (length b.here.bytes) leaf) _ _ λ u.
+      refused_then _ _ WrongManner _ _ refl λ plays. done _ refl)))
     where
       same : (h : ℕ) → (h == h) ≡ true
       same h = eqb_same h h refl
@@ -120,7 +122,7 @@ module _ (d : Desk) (is : IsDesk d) where
   pub repeat-goes : (name : List ℕ) → GoesBy (repeat d name) (conditions d (command.Repeat name))
   unfolding repeat named
   repeat-goes name =
-      found_then _ _ _ _ λ t e. rw e (found_then _ _ _ _ λ last f. rw f (send-then (record last.0 { from = t.handle }) _ λ u. done _ refl))
+      found_then _ _ _ _ λ t e. rw e (found_then _ _ _ _ λ last f. rw f (send-then (record last.0 { from = t.handle }) _ _ λ u. done _ refl))
 
   -- ---- polls and cancels
 

@@ -7,6 +7,7 @@ use Rattle.rh_laws.proofs.Common.{Follows, follows-then, follows-equal}
 use Rattle.rh_defs.specs.Chain.{result_or}
 use Rattle.rh_defs.specs.Pieces.{page_size}
 use Rattle.rh_defs.specs.Post.{post_is_live}
+use Rattle.rh_defs.specs.RawTasks.{is_raw_at, is_raw_task}
 use Rattle.rh_defs.specs.Desk.{Made, task_pages, idle_buffer, kept_scrap}
 use Rattle.rh_laws.specs.Renaming.{renamed_slot, renamed_task, renamed_scrap, renamed}
 use Rattle.rh_laws.proofs.RenamedParts.{By, follows-by, found-by, total-map, find-map}
@@ -45,6 +46,14 @@ module _ (f : ℕ → ℕ) where
 
   pub task_at-renamed : (h : ℕ) (d : Desk) → task_at h (renamed f d) ≡ option_map (renamed_task f) (task_at h d)
   task_at-renamed h d = find-map (λ (t : Task). t.handle == h) (renamed_task f) (λ t. refl) d.tasks
+
+  -- whether a live task has code of its own
+  pub raw-renamed : (h : ℕ) (d : Desk) → is_raw_at h (renamed f d) ≡ is_raw_at h d
+  raw-renamed h d = ap is_raw_task (task_at-renamed h d) ∙ same (task_at h d)
+    where
+      same : (o : Option Task) → is_raw_task (option_map (renamed_task f) o) ≡ is_raw_task o
+      same None = refl
+      same (Some t) = refl
 
   pub idle_block-renamed : (k : ℕ) (t : Task) → Follows (By (renamed_here f)) (idle_block k t) (idle_block k (renamed_task f t))
   unfolding idle_block

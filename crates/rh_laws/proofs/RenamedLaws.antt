@@ -3,6 +3,7 @@ use Rattle.rh_laws.proofs.Common.{◌≡◌, ℕ, ◌+◌, Bool, true, false, co
 use Rattle.rh_laws.proofs.Common.{Ok, Err, ◌==◌, ◌||◌, nat_lt, take, drop, list_any, AllByRecursion, BadRange, Command, Granted, refuse_if, FileList, Desk}
 use Rattle.rh_laws.proofs.Common.{Answer, Bytes, Told, asked, step, start_with, after, replies, Follows, follows-as}
 use Rattle.rh_defs.specs.declared.command.Command.TheVariants as command
+use Rattle.rh_defs.specs.declared.raw_command.RawCommand.TheVariants as raw
 use Rattle.rh_defs.specs.declared.question.Question.TheVariants as question
 use Rattle.rh_defs.specs.Questions.{Listed, shown_at}
 use Rattle.rh_defs.proofs.Follows.{or_else-follows}
@@ -100,6 +101,7 @@ commands-stay test (c ∷ commands) all =
   where
     one : (c : Command) → ((b : ℕ) → puts_byte b c ≡ true → test b ≡ true) → renamed_command (λ b. cond (test b) b 0) c ≡ c
     one (command.Put name k offset bytes) all = ap (command.Put name k offset) (stay test bytes all)
+    one (command.Raw (raw.Write name x bytes)) all = ap (λ l. command.Raw (raw.Write name x l)) (stay test bytes all)
     one c all = refl
 
 files-stay : (test : ℕ → Bool) (files : FileList) → ((b : ℕ) → list_any (λ file. has_byte b file.1) files ≡ true → test b ≡ true) →

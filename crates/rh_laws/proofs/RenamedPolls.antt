@@ -9,7 +9,7 @@ use Rattle.rh_laws.proofs.Common.{with_delivered, send_letter, buffer_at, writte
 use Rattle.rh_laws.proofs.Common.{perform_send, without_buffer, taking_ended, accept, append, appended, fetch_more, took, ask, ack_back, loaded}
 use Rattle.rh_laws.proofs.Common.{load_file, take_with, perform_take, answers_none, delivered, bounced_to, handled, event, poll_taken, poll, Follows}
 use Rattle.rh_laws.proofs.Common.{follows-then, follows-equal, follows-as}
-use Rattle.rh_defs.specs.declared.message.Body.TheVariants.{DataSave, DataSaveAck, DataLoad, DataLoadAck, RamFetch, RamTransmit}
+use Rattle.rh_defs.specs.declared.message.Body.TheVariants.{DataSave, DataSaveAck, DataLoad, DataLoadAck, RamFetch, RamTransmit, Other}
 use Rattle.rh_defs.specs.declared.reply.Outcome.TheVariants as outcome
 use Rattle.rh_defs.specs.declared.transfer_action.SendAction.TheVariants as send_action
 use Rattle.rh_defs.specs.declared.transfer_action.TakeAction.TheVariants as take_action
@@ -19,7 +19,10 @@ use Rattle.rh_defs.specs.Letters.{fetch_letter, transmit_letter, load_letter}
 use Rattle.rh_defs.specs.Post.{sendable}
 use Rattle.rh_defs.specs.Sender as sender
 use Rattle.rh_defs.specs.Receiver as receiver
+use Rattle.rh_defs.specs.AnyMessage.{as_read}
+use Rattle.rh_defs.specs.IncomingEvents.{is_deaf}
 use Rattle.rh_defs.specs.Places.{overlap, first_bytes}
+use Rattle.rh_defs.specs.RawTasks.{is_raw, is_raw_at}
 use Rattle.rh_defs.specs.OutgoingEvents.{is_bad_range, scrap_shortage, wider}
 use Rattle.rh_defs.proofs.Follows.{or_else-follows, chosen-both}
 use Rattle.rh_laws.specs.Renaming.{renamed_slot, renamed_task, renamed_scrap, renamed}
@@ -28,7 +31,7 @@ use Rattle.rh_laws.proofs.RenamedHeaps.{renamed_cut}
 use Rattle.rh_laws.proofs.RenamedSlots.{renamed_here, renamed_given, some-map, address-renamed, holds-renamed, free_from-renamed, heap_block_at-renamed}
 use Rattle.rh_laws.proofs.RenamedSlots.{buffer_at-renamed, written_in-renamed, first_bytes-renamed, slot_block-renamed, slot_put-renamed}
 use Rattle.rh_laws.proofs.RenamedSlots.{slot_release-renamed, slot_alloc-renamed, slot_extend-renamed, slot_claim-renamed}
-use Rattle.rh_laws.proofs.RenamedDesks.{renamed_with, result-by, free-renamed, where-free, named-renamed, task_at-renamed, with_task-renamed}
+use Rattle.rh_laws.proofs.RenamedDesks.{renamed_with, result-by, free-renamed, raw-renamed, where-free, named-renamed, task_at-renamed, with_task-renamed}
 use Rattle.rh_laws.proofs.RenamedDesks.{with_slot-renamed, with_delivered-renamed, send_letter-renamed}
 
 -- a transmit of a part from a place, of a source with these bytes
@@ -176,7 +179,7 @@ module _ (f : ℕ → ℕ) (zero-is : f 0 ≡ 0) where
 
   -- ---- the receiver
 
-  without-renamed : (address : ℕ) (s : Slot) → without_buffer address (renamed_slot f s) ≡ renamed_slot f (without_buffer address s)
+  pub without-renamed : (address : ℕ) (s : Slot) → without_buffer address (renamed_slot f s) ≡ renamed_slot f (without_buffer address s)
   without-renamed address s = result-by s (slot_release-renamed f address s)
 
   ended-renamed : (h : ℕ) (x : Taking) (edit : List Incoming → List Incoming) (d : Desk) → taking_ended h x edit (renamed f d) ≡ renamed f
@@ -324,13 +327,18 @@ module _ (f : ℕ → ℕ) (zero-is : f 0 ≡ 0) where
 
   delivered-renamed : (d : Desk) (t : Task) (m : Parcel) (body : Body) → Same (delivered d t m body) (delivered (renamed f d) (renamed_task f t) m body)
   unfolding delivered
-  delivered-renamed d t m (DataSave file) = perform_take-renamed d t _
+  delivered-renamed d t m (DataSave file) =
+      let claim = receiver.on_save (is_deaf t.manner) m.message.from m.message.my_ref t.taking in
+      let here = perform_take d t (receiver.flagged (is_raw_at m.message.from d) claim) in
+      subst (λ b. Same here (perform_take (renamed f d) (renamed_task f t) (receiver.flagged b claim)))
+      (sym (raw-renamed f m.message.from d)) (perform_take-renamed d t (receiver.flagged (is_raw_at m.message.from d) claim))
   delivered-renamed d t m (DataSaveAck file) = perform_send-renamed d t _
   delivered-renamed d t m (DataLoad file) = perform_take-renamed d t _
   delivered-renamed d t m (DataLoadAck file) = perform_send-renamed d t _
   delivered-renamed d t m (RamFetch buffer amount) =
       chosen-both (By (renamed_with f)) (answers_none t.manner) _ _ _ _ refl (perform_send-renamed d t _)
   delivered-renamed d t m (RamTransmit buffer n) = perform_take-renamed d t _
+  delivered-renamed d t m (Other other) = refl
 
   bounced_to-renamed : (d : Desk) (t : Task) (m : Parcel) (body : Body) → Same (bounced_to d t m body) (bounced_to (renamed f d) (renamed_task f t) m body)
   unfolding bounced_to
@@ -340,6 +348,7 @@ module _ (f : ℕ → ℕ) (zero-is : f 0 ≡ 0) where
   bounced_to-renamed d t m (DataLoadAck file) = refl
   bounced_to-renamed d t m (RamFetch buffer amount) = perform_take-renamed d t _
   bounced_to-renamed d t m (RamTransmit buffer n) = fail_sending-renamed d t _
+  bounced_to-renamed d t m (Other other) = refl
 
   handled-renamed : (d : Desk) (t : Task) (m : Parcel) (code : EventCode) → Same (handled d t m code) (handled (renamed f d) (renamed_task f t) m code)
   unfolding handled
@@ -350,7 +359,8 @@ module _ (f : ℕ → ℕ) (zero-is : f 0 ≡ 0) where
   poll_taken-renamed : (d : Desk) (t : Task) (o : Option Parcel) → By (renamed_with f) (poll_taken d t o) (poll_taken (renamed f d) (renamed_task f t) o)
   unfolding poll_taken
   poll_taken-renamed d t None = refl
-  poll_taken-renamed d t (Some m) = ap (event m) (handled-renamed d t m m.code)
+  poll_taken-renamed d t (Some m) =
+      ap (event (as_read m)) (chosen-both (By (renamed_with f)) (is_raw t.manner) _ _ _ _ refl (handled-renamed d t (as_read m) m.code))
 
   pub poll-renamed : (d : Desk) (name : List ℕ) → Follows (By (renamed_with f)) (poll d name) (poll (renamed f d) name)
   unfolding poll

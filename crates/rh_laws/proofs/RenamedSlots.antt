@@ -9,7 +9,7 @@ use Rattle.rh_defs.specs.SlotImage.{heap_place}
 use Rattle.rh_defs.specs.Pieces.{pages_for, is_inside}
 use Rattle.rh_defs.specs.Slot.{weight, slot_length, flex_start, is_used, flex_around, holds, with_block_bytes, without, with_heap, opened_at, taken_out}
 use Rattle.rh_defs.specs.Slot.{is_stuck}
-use Rattle.rh_defs.specs.Places.{roomy_in, written_heap, written_around, first_bytes, free_from}
+use Rattle.rh_defs.specs.Places.{roomy_in, written_heap, written_around, written_held, bytes_in_heap, bytes_around, bytes_held, first_bytes, free_from}
 use Rattle.rh_laws.specs.Renaming.{renamed_block, renamed_segment, renamed_heap, renamed_slot}
 use Rattle.rh_laws.proofs.RenamedParts.{By, follows-by, follows-test, found-by, total-map, cut_by, first_at-map, zeros-map, fitted-map, written-map}
 use Rattle.rh_laws.proofs.RenamedHeaps.{renamed_cut, renamed_placed, room-renamed, bytes-renamed, place-renamed, block_at-renamed, block_around-renamed}
@@ -165,13 +165,39 @@ module _ (f : ℕ → ℕ) where
       ∙ ap (λ l. with_block_bytes (renamed_here f b) l (renamed_slot f s)) (written-map f b.here.bytes (x - flex_address s b.before) bytes)
       ∙ with_bytes-renamed b (written b.here.bytes (x - flex_address s b.before) bytes) s
 
-  pub written_in-renamed : (x : ℕ) (bytes : List ℕ) (o : Option (Split Segment)) (s : Slot) → written_in x (map f bytes) (option_map
-      (renamed_cut f) o) (renamed_slot f s) ≡ renamed_slot f (written_in x bytes o s)
-  written_in-renamed x bytes (Some b) s = with_heap_bytes-renamed b 0 bytes s
-  written_in-renamed x bytes None s =
+  pub written_held-renamed : (x : ℕ) (bytes : List ℕ) (s : Slot) → written_held x (map f bytes) (renamed_slot f s) ≡ renamed_slot f (written_held x bytes s)
+  written_held-renamed x bytes s =
       ap (λ n. written_around x (map f bytes) (flex_around x n (renamed_slot f s)) (renamed_slot f s)) (length-map bytes f)
       ∙ ap (λ o. written_around x (map f bytes) o (renamed_slot f s)) (flex_around-renamed x (length bytes) s)
       ∙ written_around-renamed x bytes (flex_around x (length bytes) s) s
+
+  pub written_in-renamed : (x : ℕ) (bytes : List ℕ) (o : Option (Split Segment)) (s : Slot) → written_in x (map f bytes) (option_map
+      (renamed_cut f) o) (renamed_slot f s) ≡ renamed_slot f (written_in x bytes o s)
+  written_in-renamed x bytes (Some b) s = with_heap_bytes-renamed b 0 bytes s
+  written_in-renamed x bytes None s = written_held-renamed x bytes s
+
+  -- bytes that are read at an address
+  heap_bytes-renamed : (x n : ℕ) (o : Option (Split Segment)) → bytes_in_heap x n (option_map (renamed_cut f) o) ≡ map f (bytes_in_heap x n o)
+  heap_bytes-renamed x n None = refl
+  heap_bytes-renamed x n (Some b) =
+      ap (λ p. take n (drop (x - (heap_start + p + 4)) (bytes_of (renamed_segment f b.here)))) (place-renamed f b.before)
+      ∙ ap (λ l. take n (drop (x - (heap_start + place_after b.before + 4)) l)) (bytes-renamed f b.here)
+      ∙ ap (take n) (drop-map f (x - (heap_start + place_after b.before + 4)) (bytes_of b.here))
+      ∙ take-map f n (drop (x - (heap_start + place_after b.before + 4)) (bytes_of b.here))
+
+  bytes_around-renamed : (x n : ℕ) (s : Slot) (o : Option (Split Flex)) → bytes_around x n (renamed_slot f s) (option_map (renamed_here f) o)
+      ≡ map f (bytes_around x n s o)
+  bytes_around-renamed x n s None =
+      ap (bytes_in_heap x n) (block_around-renamed f (x - heap_start) n s.heap)
+      ∙ heap_bytes-renamed x n (block_around (x - heap_start) n s.heap)
+  bytes_around-renamed x n s (Some b) =
+      ap (λ a. take n (drop (x - a) (map f b.here.bytes))) (address-renamed s b.before)
+      ∙ ap (take n) (drop-map f (x - flex_address s b.before) b.here.bytes)
+      ∙ take-map f n (drop (x - flex_address s b.before) b.here.bytes)
+
+  pub bytes_held-renamed : (x n : ℕ) (s : Slot) → bytes_held x n (renamed_slot f s) ≡ map f (bytes_held x n s)
+  bytes_held-renamed x n s =
+      ap (bytes_around x n (renamed_slot f s)) (flex_around-renamed x n s) ∙ bytes_around-renamed x n s (flex_around x n s)
 
   pub first_bytes-renamed : (n : ℕ) (o : Option (Split Segment)) → first_bytes n (option_map (renamed_cut f) o) ≡ map f (first_bytes n o)
   first_bytes-renamed n None = refl

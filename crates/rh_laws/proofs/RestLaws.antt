@@ -1,16 +1,24 @@
 -- After any commands each record waits for a message that is live, or for an answer that is queued; so at rest none waits.
-use Rattle.rh_laws.proofs.Common.{Acknowledge, AllByRecursion, Answer, Bool, Changed, Command, Desk, EventCode, Fits, Good, Has, IsDesk, List, Manner, None}
-use Rattle.rh_laws.proofs.Common.{NotOpen, NothingSent, Ok, OnGrant, Option, Parcel, Post, Recorded, Scrap, Seat, Sending, Some, Task, [], after, after-is}
-use Rattle.rh_laws.proofs.Common.{all_in_range, and_left, and_right, answers_none, ap, arith, cancel_in, cancel_out, change, eq-eqb, eqb_tells, false, field_is}
-use Rattle.rh_laws.proofs.Common.{find, first_is, fits, found_or, free_pages, granted, granted-on, granted-past, granted-then, handled, has_of, held_by}
-use Rattle.rh_laws.proofs.Common.{if◌then◌else◌, in_id, in_range, in_slot, inl, inr, is_equal, is_found, is_open, keeps, kill, length, live_of, make, map}
+use Rattle.rh_laws.proofs.Common.{Acknowledge, Answer, Bool, Changed, Command, Desk, EventCode, Fits, Good, Has, IsDesk, List, Manner, None}
+use Rattle.rh_laws.proofs.Common.{NotOpen, NothingSent, Ok, OnGrant, Option, Parcel, Post, Recorded, Scrap, Sending, Some, Task, [], after}
+use Rattle.rh_laws.proofs.Common.{all_in_range, and_left, and_right, answers_none, ap, arith, cancel_in, cancel_out, change, eq-eqb, false, field_is}
+use Rattle.rh_laws.proofs.Common.{find, first_is, fits, found_or, free_pages, granted, granted-on, granted-past, granted-then, handled}
+use Rattle.rh_laws.proofs.Common.{if◌then◌else◌, in_id, in_range, in_slot, inl, inr, is_found, is_open, keeps, kill, length, live_of, make}
 use Rattle.rh_laws.proofs.Common.{named, next_ref, none_some, not, open_of, option_map, or_else-keeps, out_id, poll, poll_taken, post_poll, put_other, put_same}
 use Rattle.rh_laws.proofs.Common.{refl, repeat, save, send_letter, start-is, start_task, start_with, step, step-keeps, subst, sym, task_of, the_task, true}
-use Rattle.rh_laws.proofs.Common.{view, with_delivered, with_id, with_sending, with_taking, ℕ, ◌&&◌, ◌<◌, ◌==◌, ◌∙◌, ◌∷◌, ◌≡◌, ◌≢◌}
+use Rattle.rh_laws.proofs.Common.{view, with_delivered, with_id, with_sending, with_taking, ℕ, ◌<◌, ◌∙◌, ◌∷◌, ◌≡◌, ◌≢◌}
 use Rattle.rh_defs.specs.declared.command.Command.TheVariants as command
 use Rattle.rh_defs.specs.declared.message.Action.TheVariants as action
-use Rattle.rh_defs.specs.Records.{is_going, is_meant, most_records}
-use Rattle.rh_defs.specs.Commands.{with_new_task}
+use Rattle.rh_defs.specs.declared.raw_command.RawCommand.TheVariants as raw
+use Rattle.rh_defs.specs.declared.reply.Outcome.TheVariants as outcome
+use Rattle.std.specs.Option.{option_and_then}
+use Rattle.rh_defs.specs.AnyMessage.{as_read}
+use Rattle.rh_defs.specs.RawCommands.{ack, after_answer, send, spool, transfer}
+use Rattle.rh_defs.specs.RawTasks.{is_raw}
+use Rattle.rh_defs.specs.Transfer.{received}
+use Rattle.rh_laws.proofs.Common.{any-grant, chosen, granted-both, Taking, unwrap_or}
+use Rattle.rh_defs.specs.Records.{is_meant}
+use Rattle.rh_defs.specs.Commands.{with_new_task, with_released}
 use Rattle.rh_defs.specs.Desk.{idle_block, kept_scrap}
 use Rattle.rh_defs.specs.IncomingEvents.{is_deaf}
 use Rattle.rh_defs.specs.Letters.{save_letter}
@@ -24,18 +32,22 @@ use Rattle.rh_safety.proofs.Basics.{first_has}
 use Rattle.rh_safety.proofs.Ends.{Asking, Code, Draining, Edits, Fetching, In, In_done, In_failed, Message, Offers, Open, Out, Out_failed, Plain, Returned}
 use Rattle.rh_safety.proofs.Ends.{first_for, put}
 use Rattle.rh_safety.proofs.Invariant.{Inv, IsLive, Known, Knows, LiveFile, Rises}
-use Rattle.rh_safety.proofs.KeptPolls.{Given, given}
+use Rattle.rh_safety.proofs.KeptPolls.{Given, given, known_kind, read_same}
+use Rattle.rh_safety.proofs.Played.{Plays, named_plays, neither, step_same, step_stays}
+use Rattle.rh_safety.proofs.SeenKeys.{keys_of}
 use Rattle.rh_safety.proofs.FlexMaps as flex
-use Rattle.rh_safety.proofs.Keeps.{from_found}
+use Rattle.rh_safety.proofs.Keeps.{Stands, from_found}
+use Rattle.rh_safety.specs.Held.{edits_next}
+use Rattle.rh_safety.specs.Offered.{offers_next}
+use Rattle.rh_safety.specs.RawIds.{Gave, gave_next, has_raw, starts_raw}
 use Rattle.rh_safety.proofs.Moves.{at_put, move_more, move_with}
 use Rattle.rh_safety.proofs.Polls.{left_good, unpicked_live}
 use Rattle.rh_safety.proofs.Numbers.{always-own-refs}
-use Rattle.rh_safety.proofs.Runs.{start_good}
 use Rattle.rh_safety.specs.Refs.{HaveOwnRefs}
 use Rattle.rh_safety.proofs.SeenFrames.{HaveOwnSeats}
 use Rattle.rh_safety.proofs.SeenFiles.{delivered_live, seen_live}
 use Rattle.rh_safety.proofs.SeenBlocks.{the_idle}
-use Rattle.rh_safety.proofs.SeenLaws.{good_after, kept_good}
+use Rattle.rh_safety.proofs.SeenLaws.{start_stands}
 use Rattle.rh_safety.proofs.SeenPosts.{after_kill, killed_view, with_scrap}
 use Rattle.rh_safety.proofs.SeenSaves.{after_save}
 use Rattle.rh_safety.proofs.SeenSends.{sent_view}
@@ -47,8 +59,9 @@ use Rattle.rh_safety.proofs.Sight.{owned}
 use Rattle.rh_safety.proofs.View.{blocks_of, buffers_of, flex_map, of, seen_last, seen_letter, seen_parcel, seen_scrap}
 use Rattle.rh_defs.specs.Files.{FileList}
 use Rattle.rh_defs.specs.Laws.{IsStart}
-use Rattle.rh_laws.specs.Progress.{IsAtRest, rounds_of}
-use Rattle.rh_laws.specs.Rest.{AlwaysSettles, IsOffered, IsSettled}
+use Rattle.rh_laws.specs.Progress.{rounds_of}
+use Rattle.rh_laws.specs.Rest.{AlwaysSettles}
+use Rattle.rh_laws.proofs.PlayedDesks.{bare_good, bare_inv, bare_taken, no_one, rounds_none}
 use Rattle.rh_laws.proofs.ProgressLaws.{always-progresses}
 use Rattle.rh_laws.proofs.Wants.{AllWait, HasWant, InWants, OutWants, WaitsFor, Want, Wants, is_sent, ref_of, reply, want_in, want_out}
 use Rattle.rh_laws.proofs.WantEdits.{For, KeepsFile, Picks, Then, answer, killed-waits, left_by, own_back, picked-waits, picks, quiet-asks, quiet-told}
@@ -63,6 +76,7 @@ use Rattle.rh_laws.proofs.WantDeeds.{Anew, Before, IsSpent, Sends, deed-waits}
 use Rattle.rh_laws.proofs.WantRecords.{InWant, OutsOf, Ready, TurnsOf, asks-fits, by_ask, by_drain, by_fetch, deed, ids-stay, in-want, ins-stay, out-want}
 use Rattle.rh_laws.proofs.WantRecords.{outs-moved, outs-stay, turns-moved, un}
 use Rattle.rh_laws.proofs.WantTurns.{handled-waits}
+use Rattle.rh_laws.proofs.AtRest.{settled}
 
 -- each record waits, and those of transfers whose sender says Done end
 pub record Goes_on (d : sight.Desk) : Type 0 where
@@ -158,10 +172,16 @@ ready d k m taken = record {
   };
 }
 
-module _ {o : Offers} {e : Edits} (d : Desk) (t : Task) (fit : Fits d) (is : task_of t.handle d.tasks ≡ Some t) (good : Good o e (view d))
-    (goes : Goes_on (view d)) (pairs : Pairs (view d)) (refs : HaveOwnRefs d) where
+module _ {o : Offers} {e : Edits} (d : Desk) (t : Task) (fit : Fits d) (is : task_of t.handle d.tasks ≡ Some t) (stands : Stands o e no_one (view d))
+    (plays : is_raw t.manner ≡ false) (goes : Goes_on (view d)) (pairs : Pairs (view d)) (refs : HaveOwnRefs d) where
   abbrev k : ℕ
   k = t.handle
+
+  abbrev offers : Offers
+  offers = stands.offers
+
+  good : Good offers e (view d)
+  good = bare_good stands
 
   abbrev D : sight.Desk
   D = view d
@@ -225,8 +245,8 @@ module _ {o : Offers} {e : Edits} (d : Desk) (t : Task) (fit : Fits d) (is : tas
       abbrev M : Message
       M = seen_parcel m
 
-      g : Given o e d1 t m
-      g = given d t fit is good p own w m q
+      g : Given offers e no_one stands.coded d1 t m
+      g = given d t fit is stands p own w m q
 
       first-left : first_for k L.queue ≡ Some M
       first-left = w.first ∙ ap (option_map seen_parcel) q
@@ -237,16 +257,16 @@ module _ {o : Offers} {e : Edits} (d : Desk) (t : Task) (fit : Fits d) (is : tas
       seen-left : view d1 ≡ sight.picked L k M m.code
       seen-left = w.seen ∙ ap (λ (v : Option Parcel). picked_by k (option_map seen_parcel v) L) q
 
-      good-left : Good o e L
+      good-left : Good offers e L
       good-left = left_good w.lost k (D.held k) refl (unpicked_live L k M m.code first-left (subst LiveFile seen-left (delivered_live d p.0 own))) good
 
-      inv : Inv o e (view d1)
+      inv : Inv offers e (view d1)
       inv = by m.code refl
         where
-          by : (c : EventCode) → m.code ≡ c → Inv o e (view d1)
-          by Acknowledge c = (g.back c).inv
-          by Recorded c = (g.came (λ r. let z : Recorded ≡ Acknowledge = sym c ∙ r in (cc))).inv
-          by Plain c = (g.came (λ r. let z : Plain ≡ Acknowledge = sym c ∙ r in (cc))).inv
+          by : (c : EventCode) → m.code ≡ c → Inv offers e (view d1)
+          by Acknowledge c = bare_inv offers e (view d1) (g.back c).inv
+          by Recorded c = bare_inv offers e (view d1) (g.came (λ r. let z : Recorded ≡ Acknowledge = sym c ∙ r in (cc))).inv
+          by Plain c = bare_inv offers e (view d1) (g.came (λ r. let z : Plain ≡ Acknowledge = sym c ∙ r in (cc))).inv
 
       taken : Taken (view d1) k M
       taken =
@@ -255,11 +275,11 @@ module _ {o : Offers} {e : Edits} (d : Desk) (t : Task) (fit : Fits d) (is : tas
           let seen : view d1 ≡ left_by R k z.0 l.0 =
           seen-left ∙ ap (λ (S : sight.Desk). sight.picked S k M m.code) l.1 ∙ picked-lost R M l.0 m.code ∙ z.1.1 l.0 in
           subst (λ (S : sight.Desk). Taken S k M) (sym seen)
-          (taken-matched R k M first z.0 l.0 z.1.0 matched all-returned (subst (Good o e) l.1 good-left) (returned-pairs D k (D.held k) pairs)
+          (taken-matched R k M first z.0 l.0 z.1.0 matched all-returned (subst (Good offers e) l.1 good-left) (returned-pairs D k (D.held k) pairs)
           (returned-alone D k (D.held k) refl (alone-of d refs))
-          (here l.0 z.0 z.1.0 (kept-by _ seen) (subst (Inv o e) seen inv) (ap (λ (S : sight.Desk). S.next_ref) l.1)))
+          (here l.0 z.0 z.1.0 (kept-by _ seen) (subst (Inv offers e) seen inv) (ap (λ (S : sight.Desk). S.next_ref) l.1)))
         where
-          here : (sc : Option sight.Scrap) (hd : ℕ → Option Message) → Picks R k M hd → KeepsFile R (left_by R k hd sc) → Inv o e (left_by R k hd sc) →
+          here : (sc : Option sight.Scrap) (hd : ℕ → Option Message) → Picks R k M hd → KeepsFile R (left_by R k hd sc) → Inv offers e (left_by R k hd sc) →
               L.next_ref ≡ R.next_ref → Before (left_by R k hd sc) k M
           here sc hd x keeps i next = record {
             waits = λ h v y. picked-waits R k M first hd sc x keeps (all-returned.waits h v y);
@@ -277,12 +297,18 @@ module _ {o : Offers} {e : Edits} (d : Desk) (t : Task) (fit : Fits d) (is : tas
           }
 
       some-taken : Goes_on (view (handled d1 t m m.code).0)
-      some-taken = handled-waits Goes_on d1 t m g.is inv (ready (view d1) k M taken) (λ u. g.came u)
+      some-taken = handled-waits Goes_on d1 t m g.is inv (ready (view d1) k M taken) (λ u. bare_taken offers e (view d1) k M (g.came u))
+
+      -- it is read as it was sent
+      read : as_read m ≡ m
+      read = read_same m (known_kind m.message.body g.kind)
 
     by-taken : (v : Option Parcel) → p.1 ≡ v → Goes_on (view (poll_taken d1 t v).0)
     unfolding poll_taken
     by-taken None q = none-taken q
-    by-taken (Some m) q = some-taken m q
+    by-taken (Some m) q =
+        subst (λ (z : Parcel). Goes_on (view (received d1 t z).0)) (sym (read m q))
+        (subst (λ (b : Bool). Goes_on (view (if b then (d1, outcome.Taken) else handled d1 t m m.code).0)) (sym plays) (some-taken m q))
 
 -- ---- the other commands
 
@@ -305,10 +331,13 @@ blank-wants : (d : sight.Desk) (k h : ℕ) (b : Bool) (w : Want) → HasWant (pu
 blank-wants d k h b w (HasWant.comes {i} x) = let z = blank-in d k h w i x in (z.0, HasWant.comes z.1)
 blank-wants d k h b w (HasWant.goes x) = let z = blank-out d k h b w x in (z.0, HasWant.goes z.1)
 
-module _ {o : Offers} {e : Edits} (d : Desk) (fit : Fits d) (good : Good o e (view d)) (goes : Goes_on (view d)) (pairs : Pairs (view d))
-    (refs : HaveOwnRefs d) where
+module _ {o : Offers} {e : Edits} (d : Desk) (fit : Fits d) (stands : Stands o e no_one (view d)) (all : Plays (keys_of d.tasks)) (goes : Goes_on (view d))
+    (pairs : Pairs (view d)) (refs : HaveOwnRefs d) where
   abbrev V : sight.Desk
   V = view d
+
+  well : Good stands.offers e (view d)
+  well = bare_good stands
 
   record Stays (a : Answer) : Type 0 where
     desk : Goes_on (view a.0)
@@ -339,13 +368,14 @@ module _ {o : Offers} {e : Edits} (d : Desk) (fit : Fits d) (good : Good o e (vi
     where
       begun : Goes_on (view (with_new_task name buffer manner new_slot d))
       begun =
-          let none = no_task_of d d.next_handle (λ l. let z = good.inv.alive d.next_handle l in omega (arith, z)) in
+          let none = no_task_of d d.next_handle (λ l. let z = well.inv.alive d.next_handle l in omega (arith, z)) in
           subst Goes_on (sym (started_view d name buffer manner none)) (record {
-            matched = started-matched V buffer (is_deaf manner) (answers_none manner) goes.matched;
+            matched = started-matched V buffer (is_deaf manner) (answers_none manner) (is_raw manner) goes.matched;
             waits = leads (record {
               ins = λ h w i x. (blank-in V V.next_handle h w i x).1;
               outs = λ h w x. (blank-out V V.next_handle h (answers_none manner) w x).1;
-              waits = λ h w x. started-waits V buffer (is_deaf manner) (answers_none manner) (blank-wants V V.next_handle h (answers_none manner) w x).0;
+              waits = λ h w x. started-waits V buffer (is_deaf manner) (answers_none manner) (is_raw manner)
+                  (blank-wants V V.next_handle h (answers_none manner) w x).0;
             }) goes.waits;
           })
 
@@ -364,11 +394,11 @@ module _ {o : Offers} {e : Edits} (d : Desk) (fit : Fits d) (good : Good o e (vi
     waits = λ h w x. by h w (goes.waits.waits h w x);
     apart = goes.waits.apart;
     to = refl;
-    letters = λ l kn. let b = good.inv.letters.below l kn in (b.me, b.answers);
-    mine = good.inv.positive;
-    refs = refs-below good.inv;
-    ids = good.inv.order.in_below;
-    positive = good.inv.positive;
+    letters = λ l kn. let b = well.inv.letters.below l kn in (b.me, b.answers);
+    mine = well.inv.positive;
+    refs = refs-below well.inv;
+    ids = well.inv.order.in_below;
+    positive = well.inv.positive;
     silent = goes.matched.silent;
     alone = λ y has u v. absurd (v refl);
   }
@@ -393,8 +423,8 @@ module _ {o : Offers} {e : Edits} (d : Desk) (fit : Fits d) (good : Good o e (vi
       carried = λ f has kind un. absurd (un refl);
     };
     before = before-idler k;
-    outs = good.inv.order.out_below;
-    ascends = good.inv.order.ins;
+    outs = well.inv.order.out_below;
+    ascends = well.inv.order.ins;
   }
 
   sent-all : (k : ℕ) (n : Message) (sd : ℕ → List Out) → n.letter.from ≡ k → n.letter.me ≡ V.next_ref → n.letter.answers < V.next_ref →
@@ -413,7 +443,10 @@ module _ {o : Offers} {e : Edits} (d : Desk) (fit : Fits d) (good : Good o e (vi
 
   repeat-stays : (name : List ℕ) → OnGrant Stays (repeat d name)
   unfolding repeat
-  repeat-stays name = granted-then _ _ λ t q. granted-then _ _ λ last z. granted-then _ _ λ sent y. granted (record { desk = again t last sent q z y })
+  repeat-stays name = granted-then _ _ λ t q. granted-then _ _ λ last z. granted-then _ _ λ sent y.
+      granted (record {
+        desk = subst (λ (b : Bool). Goes_on (view (if b then after_answer sent else sent))) (sym (named_plays d all name t q)) (again t last sent q z y);
+      })
     where
       again : (t : Task) (last : Letter_ × ℕ) (sent : Desk) → named name d ≡ Ok t → found_or t.last_sent NothingSent ≡ Ok last →
           send_letter (record last.0 { from = t.handle }) d ≡ Ok sent → Goes_on (view sent)
@@ -423,14 +456,14 @@ module _ {o : Offers} {e : Edits} (d : Desk) (fit : Fits d) (good : Good o e (vi
           let there : V.last t.handle ≡ Some (seen_last last) =
           field_is (λ x. option_map seen_last x.last_sent) _ t.handle d.tasks t is ∙ ap (option_map seen_last) (is_found t.last_sent NothingSent last z) in
           let kn : Knows V (owned t.handle (seen_last last)).letter = Known.latest t.handle (seen_last last) there refl in
-          sent-all t.handle (seen_letter l d.post.next_ref) V.sending refl refl (good.inv.letters.below _ kn).answers (IsSpent.answered _ kn refl)
+          sent-all t.handle (seen_letter l d.post.next_ref) V.sending refl refl (well.inv.letters.below _ kn).answers (IsSpent.answered _ kn refl)
           (outs-stay V t.handle (idler t.handle) (Some (seen_letter l d.post.next_ref)) (λ w x f. never-for f)) (λ h v has. inl has)
           (sent_view d sent l y (live_of d t.handle t is))
 
   save-stays : (name : List ℕ) (k : ℕ) (to leaf : List ℕ) → OnGrant Stays (save d name k to leaf)
   unfolding save
   save-stays name k to leaf =
-      granted-then _ _ λ t q. granted-then _ _ λ b i. granted-past _ _ _ λ full. granted-then _ _ λ r z. granted-then _ _ λ sent y.
+      granted-then _ _ λ t q. granted-then _ _ λ b i. granted-past _ _ _ λ full. granted-then _ _ λ r z. granted-then _ _ λ sent y. granted-past _ _ _ λ its.
       granted (record { desk = saved t b r sent q i y })
     where
       saved : (t : Task) (b : Split Flex) (r : Task) (sent : Desk) → named name d ≡ Ok t → idle_block k t ≡ Ok b →
@@ -446,8 +479,8 @@ module _ {o : Offers} {e : Edits} (d : Desk) (fit : Fits d) (good : Good o e (vi
             letter = record { from = h; me = V.next_ref; answers = 0; kind = action.DataSave; address = 0; amount = length (sight.bytes_of (V.block h k)) };
           } in
           let x : Sending = record { id = V.next_ref; recipient = r.handle; anchor = k; count = 0; last = V.next_ref } in
-          let move = move_more out_id V.sending h V.most is_open (Open x) (λ v has e. let z = good.inv.order.out_below h v has in omega (arith, z, e)) in
-          sent-all h n _ refl refl good.inv.positive (IsSpent.none refl)
+          let move = move_more out_id V.sending h V.most is_open (Open x) (λ v has e. let z = well.inv.order.out_below h v has in omega (arith, z, e)) in
+          sent-all h n _ refl refl well.inv.positive (IsSpent.none refl)
           (outs-moved V h (idler h) (Some n) _ (Open x) move
           (λ w u has wants f. absurd (never-for f)) (λ w wants. anew h n x refl refl refl refl refl w (V.file h) refl wants))
           (turns-moved V h (idler h) (Some n) _ (Open x) move (inl refl))
@@ -507,19 +540,37 @@ module _ {o : Offers} {e : Edits} (d : Desk) (fit : Fits d) (good : Good o e (vi
       granted-then _ _ λ t q. granted-then _ _ λ records z.
       granted (record {
         desk = from_found (find (receiver.is_wanted id) t.taking) NotOpen (λ x. with_id in_id (in_id x) (receiver.cancelled x) t.taking) records z
-            (λ x found same. given_up t x records q (first_is (receiver.is_wanted id) t.taking x found).0 same);
+            (λ x found same.
+            let has = (first_is (receiver.is_wanted id) t.taking x found).0 in
+            let none : receiver.released_by id t.taking ≡ None = ap (option_and_then receiver.let_go) found ∙ stays_held t q x has in
+            subst (λ (v : Option Taking). Goes_on (view (with_taking t.handle (λ _. records) (with_released t.handle v d)))) (sym none)
+            (given_up t x records q has same));
       })
     where
       cancelled-wants : (x : In) (w : Want) → want_in (receiver.cancelled x) ≡ Some w → want_in x ≡ Some w
-      cancelled-wants (Fetching f) w e = e
+      cancelled-wants (Fetching f) w e = by f.raw e
+        where
+          by : (b : Bool) → want_in (if b then In_failed f.id f.anchor f.count else Draining f) ≡ Some w → want_in (Fetching f) ≡ Some w
+          by true e = absurd (none_some None refl e)
+          by false e = e
       cancelled-wants (Draining f) w e = e
       cancelled-wants (Asking q) w e = absurd (none_some None refl e)
       cancelled-wants (In_done i a n) w e = e
       cancelled-wants (In_failed i a n) w e = e
 
       cancelled-id : (x : In) → in_id (receiver.cancelled x) ≡ in_id x
-      cancelled-id (Fetching f) = refl
+      cancelled-id (Fetching f) = chosen (λ (v : In). in_id v ≡ f.id) f.raw (In_failed f.id f.anchor f.count) (Draining f) refl refl
       cancelled-id _ = refl
+
+      -- no buffer goes with a record of theirs
+      stays_held : (t : Task) → named name d ≡ Ok t → (x : In) → Has x t.taking → receiver.let_go x ≡ None
+      stays_held t q (Fetching f) has =
+          let own = field_is (λ y. y.taking) [] t.handle d.tasks t (the_task d name t fit q) in
+          ap (λ (b : Bool). if b then Some f else None) (stands.raws.flags t.handle f (subst (Has (Fetching f)) (sym own) has))
+      stays_held t q (Draining f) has = refl
+      stays_held t q (Asking x) has = refl
+      stays_held t q (In_done i a n) has = refl
+      stays_held t q (In_failed i a n) has = refl
 
       given_up : (t : Task) (x : In) (records : List In) → named name d ≡ Ok t → Has x t.taking →
           with_id in_id (in_id x) (receiver.cancelled x) t.taking ≡ records → Goes_on (view (with_taking t.handle (λ _. records) d))
@@ -573,9 +624,35 @@ module _ {o : Offers} {e : Edits} (d : Desk) (fit : Fits d) (good : Good o e (vi
       let is = the_task d name t fit q in
       let h : ℕ = t.handle in
       granted (record {
-        desk = by-taken d t fit is good goes pairs refs (post_poll h d.post) (fit.polled h) (poll_taken_is d h fit (live_of d h t is))
+        desk = by-taken d t fit is stands (named_plays d all name t q) goes pairs refs (post_poll h d.post) (fit.polled h)
+            (poll_taken_is d h fit (live_of d h t is))
             (post_poll h d.post).1 refl;
       })
+
+  -- ---- commands that no task of the desk's own may use
+
+  refuses : {A : Type 0} (name : List ℕ) (t : Task) → named name d ≡ Ok t → not (is_raw t.manner) ≡ false → A
+  refuses name t q off = absurd (let z : true ≡ false = ap not (sym (named_plays d all name t q)) ∙ off in (cc))
+
+  send-stays : (name : List ℕ) (recorded : Bool) (h ref a : ℕ) (bytes : List ℕ) → OnGrant Stays (send d name recorded h ref a bytes)
+  unfolding send
+  send-stays name recorded h ref a bytes =
+      granted-then _ _ λ t q. granted-then _ _ λ sent y. granted-past _ _ _ λ off. refuses name t q off
+
+  transfer-stays : (name : List ℕ) (x h y n : ℕ) → OnGrant Stays (transfer d name x h y n)
+  unfolding transfer
+  transfer-stays name x h y n =
+      granted-then _ _ λ t q. granted-past _ _ _ λ open_. granted-then _ _ λ r i. granted-past _ _ _ λ off. refuses name t q off
+
+  ack-stays : (name : List ℕ) → OnGrant Stays (ack d name)
+  unfolding ack
+  ack-stays name = granted-then _ _ λ t q. granted-past _ _ _ λ off. refuses name t q off
+
+  spool-stays : (name : List ℕ) (k h ref : ℕ) → OnGrant Stays (spool d name k h ref)
+  unfolding spool
+  spool-stays name k h ref =
+      granted-then _ _ λ t q. granted-then _ _ λ b i. granted-past _ _ _ λ none. granted-both _ (any-grant _) λ x u. granted-past _ _ _ λ room.
+      granted-then _ _ λ sent y. granted-past _ _ _ λ off. refuses name t q off
 
   change-stays : (c : Command) → OnGrant Stays (change d c)
   change-stays (command.Task name buffer manner) = start-stays name buffer manner
@@ -586,6 +663,12 @@ module _ {o : Offers} {e : Edits} (d : Desk) (fit : Fits d) (good : Good o e (vi
   change-stays (command.CancelOut name id) = cancel_out-stays name id
   change-stays (command.Repeat name) = repeat-stays name
   change-stays (command.Make most) = make-stays most
+  change-stays (command.Raw (raw.Send name recorded h ref a bytes)) = send-stays name recorded h ref a (unwrap_or bytes [])
+  change-stays (command.Raw (raw.Write name x bytes)) = granted-on d (command.Raw (raw.Write name x bytes)) refl memory-stays
+  change-stays (command.Raw (raw.Transfer name x h y n)) = transfer-stays name x h y n
+  change-stays (command.Raw (raw.Ack name)) = ack-stays name
+  change-stays (command.Raw (raw.Spool name k h ref)) = spool-stays name k h ref
+  change-stays (command.Raw (raw.Scrap name k)) = granted-on d (command.Raw (raw.Scrap name k)) refl memory-stays
   change-stays c = granted-on d c tt memory-stays
 
   pub step-goes_on : (c : Command) → Goes_on (view (step d c).0)
@@ -593,21 +676,49 @@ module _ {o : Offers} {e : Edits} (d : Desk) (fit : Fits d) (good : Good o e (vi
 
 -- ---- runs
 
-pub after-goes_on : (cs : List Command) → all_in_range cs ≡ true → (d : Desk) {o : Offers} {e : Edits} → Good o e (view d) → IsDesk d → Agreed d →
-    Goes_on (view d) → Agreed (after d cs) × Goes_on (view (after d cs))
-after-goes_on [] p d good is agreed goes = (agreed, goes)
-after-goes_on (c ∷ cs) p d good is agreed goes =
+-- what is known of a desk that such a run reaches
+pub record Reached (d : Desk) : Type 0 where
+  pub offers : Offers
+  pub edits : Edits
+  pub stands : Stands offers edits no_one (view d)
+  pub is : IsDesk d
+  pub plays : Plays (keys_of d.tasks)
+  pub agreed : Agreed d
+  pub goes : Goes_on (view d)
+
+pub good-of : (d : Desk) (w : Reached d) → Good w.stands.offers w.edits (view d)
+good-of d w = bare_good w.stands
+
+step-reached : (d : Desk) (c : Command) → in_range c ≡ true → starts_raw c ≡ false → Reached d → Reached (step d c).0
+step-reached d c in_c none w =
+    let fit = fits d w.is in
+    let x : Answer = step d c in
+    let gave : gave_next no_one d c x.1 ≡ no_one = step_same d w.plays no_one c in
+    record {
+      offers = offers_next w.offers d c x.1;
+      edits = edits_next w.edits d c x.1;
+      stands = subst (λ (S : Gave). Stands (offers_next w.offers d c x.1) (edits_next w.edits d c x.1) S (view x.0)) gave
+          (keeps c in_c d w.stands fit);
+      is = step-keeps d c in_c w.is;
+      plays = step_stays d w.plays c none;
+      agreed = step-agreed d fit w.stands w.plays w.agreed c in_c;
+      goes = step-goes_on d fit w.stands w.plays w.goes (pairs d w.agreed) (w.agreed.refs [] refl) c;
+    }
+
+pub after-goes_on : (cs : List Command) → all_in_range cs ≡ true → has_raw cs ≡ false → (d : Desk) → Reached d → Reached (after d cs)
+after-goes_on [] p q d w = w
+after-goes_on (c ∷ cs) p q d w =
     let in_c : in_range c ≡ true = and_left (in_range c) _ p in
-    let fit = fits d is in
-    after-goes_on cs (and_right (in_range c) _ p) (step d c).0 (keeps c in_c d good fit) (step-keeps d c in_c is) (step-agreed d fit good agreed c in_c)
-    (step-goes_on d fit good goes (pairs d agreed) (agreed.refs [] refl) c)
+    let none = neither (starts_raw c) (has_raw cs) q in
+    after-goes_on cs (and_right (in_range c) _ p) none.1 (step d c).0 (step-reached d c in_c none.0 w)
 
 -- the first desk has no task and no message
 start-agreed : (pool handle ref : ℕ) (files : FileList) → IsStart pool handle ref → Agreed (start_with pool files handle ref)
 start-agreed pool handle ref files from = record {
   addresses = λ i. None;
   addressed = record { born = λ i low. refl; of_tasks = tt; mail = tt };
-  marks = record { of_ref = λ i. None; loaded = [] };
+  marks = record { of_ref = λ i. None; loaded = []; raw = no_one };
+  none = refl;
   loaded = record { born = λ i low. refl; unloaded = λ r i low has. has; of_tasks = λ h. tt; mail = tt };
   refs = λ commands ranged. always-own-refs pool handle ref files commands from ranged;
 }
@@ -633,72 +744,25 @@ start-goes_on pool handle ref files = record {
 
 -- ---- at rest
 
-pub rest-held : (h : ℕ) (seats : List Seat) → AllByRecursion (λ (s : Seat). s.holds ≡ None) seats → held_by h seats ≡ None
-rest-held h [] all = refl
-rest-held h (s ∷ seats) all = elim (eqb_tells s.handle h) [ inl z ↦ rw z.0 all.0 | inr z ↦ rw z.0 (rest-held h seats all.1) ]
-
-none-waits : (d : Desk) → IsAtRest d.post → (h : ℕ) (w : Want) → WaitsFor (view d) h w → ⊥
-none-waits d rest h w (inr a) = subst (Has a.answer) (ap (map seen_parcel) rest.queue) a.queued
-none-waits d rest h w (inl u) = by u.live
-  where
-    by : IsLive (view d).queue (view d).held (ref_of w) → ⊥
-    by (IsLive.waits m has e) = subst (Has m) (ap (map seen_parcel) rest.queue) has
-    by (IsLive.rests k m is e) = none_some ((view d).held k) (ap (option_map seen_parcel) (rest-held k d.post.seats rest.held)) is
-
--- an open record of a task that answers no fetch, whose DataSave is its last message
-pub offered_only : {o : Offers} {e : Edits} (d : Desk) → Good o e (view d) → (h : ℕ) (t : Task) → task_of h d.tasks ≡ Some t → (x : Sending) →
-    Has (Open x) ((view d).sending h) → ((view d).file h && x.last == x.id) ≡ true → IsOffered t x
-offered_only d good h t at x has e =
-    let last : x.last ≡ x.id = is_equal _ _ (and_right ((view d).file h) _ e) in
-    record {
-      manner = sym (field_is (λ y. answers_none y.manner) false h d.tasks t at) ∙ and_left ((view d).file h) _ e;
-      last = last;
-      count = (good.inv.outs.source h x has).unread last;
-    }
-
-settled : {o : Offers} {e : Edits} (d : Desk) → Good o e (view d) → AllWait (view d) → IsAtRest d.post → IsSettled d
-settled d good all rest = record {
-  comes = λ h t w at has. comes h w (subst (Has w) (sym (field_is (λ y. y.taking) [] h d.tasks t at)) (has_of t.taking w has));
-  goes = λ h t x at has. goes h t at x (subst (Has (Open x)) (sym (field_is (λ y. y.sending) [] h d.tasks t at)) (has_of t.sending (Open x) has));
-}
-  where
-    none : (h : ℕ) (v : In) (w : Want) → Has v ((view d).taking h) → want_in v ≡ Some w → ⊥
-    none h v w has wants = none-waits d rest h w (all.waits h w (HasWant.comes (record { one = v; has = has; wants = wants; id = refl })))
-
-    comes : (h : ℕ) (v : In) → Has v ((view d).taking h) → is_going v ≡ false
-    comes h (Fetching f) has = absurd (none h (Fetching f) _ has refl)
-    comes h (Draining f) has = absurd (none h (Draining f) _ has refl)
-    comes h (Asking q) has = absurd (none h (Asking q) _ has refl)
-    comes h (In_done i a n) has = refl
-    comes h (In_failed i a n) has = refl
-
-    goes : (h : ℕ) (t : Task) → task_of h d.tasks ≡ Some t → (x : Sending) → Has (Open x) ((view d).sending h) → IsOffered t x
-    goes h t at x has = by ((view d).file h && x.last == x.id) refl
-      where
-        by : (c : Bool) → ((view d).file h && x.last == x.id) ≡ c → IsOffered t x
-        by true e = offered_only d good h t at x has e
-        by false e = absurd (none-waits d rest h (reply x.last x.recipient) (all.waits h _ (HasWant.goes (record {
-          one = Open x;
-          has = has;
-          wants = ap (λ c. if c then None else Some (reply x.last x.recipient)) e;
-        }))))
-
--- each desk that a run reaches
+-- each desk that a run reaches in which no command starts a task with code of its own
 pub always-goes_on : (pool handle ref : ℕ) (files : FileList) (commands : List Command) → IsStart pool handle ref → all_in_range commands ≡ true →
-    Agreed (after (start_with pool files handle ref) commands) × Goes_on (view (after (start_with pool files handle ref) commands))
-always-goes_on pool handle ref files commands from ranged =
+    has_raw commands ≡ false → Reached (after (start_with pool files handle ref) commands)
+always-goes_on pool handle ref files commands from ranged none =
     let positive : 0 < ref = omega (arith, from.first_ref) in
-    after-goes_on commands ranged (start_with pool files handle ref) (start_good most_records handle ref positive) (start-is pool handle ref files from)
-    (start-agreed pool handle ref files from) (start-goes_on pool handle ref files)
+    after-goes_on commands ranged none (start_with pool files handle ref) (record {
+      offers = λ i. None;
+      edits = λ k i. false;
+      stands = start_stands handle ref positive;
+      is = start-is pool handle ref files from;
+      plays = tt;
+      agreed = start-agreed pool handle ref files from;
+      goes = start-goes_on pool handle ref files;
+    })
 
 pub always-settles : AlwaysSettles
-always-settles pool handle ref files commands from ranged rounds in_rounds names few =
-    let d : Desk = start_with pool files handle ref in
-    let is = start-is pool handle ref files from in
-    let here = always-goes_on pool handle ref files commands from ranged in
-    let good = good_after pool handle ref files commands from ranged in
-    let kept = after-is d commands ranged is in
+always-settles pool handle ref files commands from ranged none rounds in_rounds names few =
+    let end : Desk = after (start_with pool files handle ref) commands in
+    let here = always-goes_on pool handle ref files commands from ranged none in
     let rest = (always-progresses pool handle ref files commands from ranged).rests rounds in_rounds names few in
-    let end : Desk = after d commands in
-    settled (after end (rounds_of rounds)) (kept_good (rounds_of rounds) in_rounds end good kept)
-    (after-goes_on (rounds_of rounds) in_rounds end good kept here.0 here.1).1.waits rest
+    let there = after-goes_on (rounds_of rounds) in_rounds (rounds_none rounds) end here in
+    settled (after end (rounds_of rounds)) (good-of (after end (rounds_of rounds)) there) there.goes.waits rest

@@ -14,15 +14,20 @@ use Rattle.rh_safety.proofs.Invariant.{Offered}
 use Rattle.rh_safety.proofs.Arrivals.{Began}
 use Rattle.rh_safety.proofs.Turns.{Pair, outgoing_at, incoming_at, fetch_of, offer, let_go, pair_of, rest as stay, rest_old as stay_old, without_one}
 use Rattle.rh_safety.proofs.PollTurns as other
-use Rattle.rh_safety.proofs.SeenKeys.{named_in, handle_named}
+use Rattle.rh_safety.proofs.SeenKeys.{named_in, raw_in, raw_is, handle_named}
 use Rattle.rh_safety.proofs.SeenSaves.{IsSaved, save_step}
-use Rattle.rh_safety.proofs.SeenLaws.{IsReached, block_is}
-use Rattle.rh_laws.specs.ScrapTurns.{CanSaveFile, EndsByFile, ScrapAlternates, eight_polls}
+use Rattle.rh_safety.proofs.SeenLaws.{IsReached, always, block_is}
+use Rattle.rh_safety.proofs.Masks.{masked}
+use Rattle.rh_safety.proofs.Played.{plays_named}
+use Rattle.rh_safety.proofs.Common.{Edits}
+use Rattle.rh_safety.specs.Played.{AfterPlayed}
+use Rattle.rh_defs.specs.RawTasks.{is_raw}
+use Rattle.rh_laws.specs.ScrapTurns.{AllScrapAlternate, CanSaveFile, EndsByFile, ScrapAlternates, eight_polls}
 use Rattle.rh_laws.proofs.ScrapStages.{Older, Stage, IsFree, back_of, ack_of, load_of, told_of, asked_at, ignored_fetch, holds_fetch, fetch_back}
 use Rattle.rh_laws.proofs.ScrapStages.{fetch_back_free, finds_fetch, asked_stage, asked_free, finds_asked, filed_stage, filed_free, finds_load, told_stage}
 use Rattle.rh_laws.proofs.ScrapStages.{told_free, finds_told, done_stage, lost_stage}
 use Rattle.rh_laws.proofs.ScrapPolls.{ignored_turn, asked_turn, FileMade, filed_turn, told_turn, done_turn}
-use Rattle.rh_safety.proofs.Alternations.{IsNamed, IsPolled, granted, is_polled, none_seated, receiver_done, rest_granted, save_names, sender_done}
+use Rattle.rh_safety.proofs.Alternations.{IsNamed, IsPlayed, IsPolled, granted, is_polled, none_seated, receiver_done, rest_granted, save_names, sender_done}
 
 -- ---- what is told at the end
 
@@ -31,16 +36,20 @@ last_has x xs ys q = subst (λ z. Has x z) (sym q) (Has-right x xs (x ∷ []) (i
 
 -- ---- from poll to poll
 
--- both tasks with their names
+-- both tasks with their names, which the desk plays
 record Here (s r : List ℕ) (p : Pair) (d : Desk) : Type 0 where
   pub kept : IsDesk d
+  pub plays_sender : IsPlayed d p.sender
+  pub plays_receiver : IsPlayed d p.receiver
   pub sender : IsNamed s d p.sender
   pub receiver : IsNamed r d p.receiver
 
 next_here : {s r : List ℕ} {p : Pair} {d : Desk} (h : ℕ) (a : Answer) → Here s r p d → IsPolled d h a →
     Here s r p a.0
-next_here {s} {r} h a t w = record {
+next_here {s} {r} {p} h a t w = record {
   kept = w.kept;
+  plays_sender = ap (raw_in p.sender) w.keys ∙ t.plays_sender;
+  plays_receiver = ap (raw_in p.receiver) w.keys ∙ t.plays_receiver;
   sender = ap (named_in s) w.keys ∙ t.sender;
   receiver = ap (named_in r) w.keys ∙ t.receiver;
 }
@@ -154,7 +163,8 @@ module _ (s r : List ℕ) (valid_s : is_name s ≡ true) (valid_r : is_name r �
 
     -- the sender takes the fetch, and does nothing
     seen2 : seen d2 ≡ sight.picked (seen d1) p.sender fetch Recorded
-    seen2 = ignored_turn d1 p.sender fetch (step d1 by_s) ((s_polled d1 here1).turn fetch free1 stage1.queue refl) refl
+    seen2 = ignored_turn d1 p.sender fetch (step d1 by_s) ((s_polled d1 here1).turn fetch refl here1.plays_sender free1
+        stage1.queue refl) refl
         refl stage1.file
 
     stage2 : Stage p (seen d2) [] v0 w0 []
@@ -205,8 +215,8 @@ module _ (s r : List ℕ) (valid_s : is_name s ≡ true) (valid_r : is_name r �
 
     seen5 : seen d5 ≡ sight.asked (sight.picked (seen d4) p.receiver (back_of p f) Acknowledge) p.receiver
         (incoming_at p 0 f)
-    seen5 = asked_turn d4 p.receiver (back_of p f) (step d4 by_r) ((r_polled d4 here4).turn (back_of p f)
-        (stage4.others p.receiver other_one) stage4.queue refl) (granted d4 by_r (from_sixth s r) ok4) refl refl (incoming_at p 0 f)
+    seen5 = asked_turn d4 p.receiver (back_of p f) (step d4 by_r) ((r_polled d4 here4).turn (back_of p f) refl
+        here4.plays_receiver (stage4.others p.receiver other_one) stage4.queue refl) (granted d4 by_r (from_sixth s r) ok4) refl refl (incoming_at p 0 f)
         refl (finds_fetch p old (seen d4) f newer stage4 free4)
 
     stage5 : Stage p (seen d5) (ack_of p ack ∷ []) v0 w1 []
@@ -224,8 +234,8 @@ module _ (s r : List ℕ) (valid_s : is_name s ≡ true) (valid_r : is_name r �
     v1 = Open (outgoing_at p 0 load)
 
     made : FileMade d5 p.sender (ack_of p ack) (outgoing_at p 0 p.id) p.source d6
-    made = filed_turn d5 p.sender (ack_of p ack) (step d5 by_s) ((s_polled d5 here5).turn (ack_of p ack) free5
-        stage5.queue refl) (granted d5 by_s (from_seventh s r) ok5) refl refl (outgoing_at p 0 p.id) p.source
+    made = filed_turn d5 p.sender (ack_of p ack) (step d5 by_s) ((s_polled d5 here5).turn (ack_of p ack) refl
+        here5.plays_sender free5 stage5.queue refl) (granted d5 by_s (from_seventh s r) ok5) refl refl (outgoing_at p 0 p.id) p.source
         (finds_asked p old (seen d5) ack stage4.next stage5 free5) refl stage5.source
 
     stage6 : Stage p (seen d6) (load_of p load ack ∷ []) v1 w1 []
@@ -243,8 +253,8 @@ module _ (s r : List ℕ) (valid_s : is_name s ≡ true) (valid_r : is_name r �
     seen7 : seen d7 ≡ sight.lost (sight.told (sight.copied (sight.picked (seen d6) p.receiver (load_of p load ack)
         Recorded) p.receiver (asked_at p ack) p.source) p.receiver (load_of p load ack).letter (asked_at p ack)
         (length p.source))
-    seen7 = told_turn d6 p.receiver (load_of p load ack) (step d6 by_r) ((r_polled d6 here6).turn (load_of p load ack)
-        (stage6.others p.receiver other_one) stage6.queue refl) (granted d6 by_r (from_eighth s r) ok6) refl refl (asked_at p ack)
+    seen7 = told_turn d6 p.receiver (load_of p load ack) (step d6 by_r) ((r_polled d6 here6).turn (load_of p load ack) refl
+        here6.plays_receiver (stage6.others p.receiver other_one) stage6.queue refl) (granted d6 by_r (from_eighth s r) ok6) refl refl (asked_at p ack)
         made.file made.there made.load (finds_load p old (seen d6) ack load stage4.next stage6 free6) refl ∙
         ap (λ (z : List ℕ). sight.lost (sight.told (sight.copied (sight.picked (seen d6) p.receiver (load_of p load ack)
         Recorded) p.receiver (asked_at p ack) z) p.receiver (load_of p load ack).letter (asked_at p ack) (length z)))
@@ -264,8 +274,8 @@ module _ (s r : List ℕ) (valid_s : is_name s ≡ true) (valid_r : is_name r �
     -- the sender is told
     seen8 : seen d8 ≡ sight.with_out (sight.picked (seen d7) p.sender (told_of p told load) User) p.sender
         (outgoing_at p 0 load) (Out_done p.id (length p.source))
-    seen8 = done_turn d7 p.sender (told_of p told load) (step d7 by_s) ((s_polled d7 here7).turn (told_of p told load)
-        free7 stage7.queue refl) (granted d7 by_s [] ok7) refl refl (outgoing_at p 0 load) p.source
+    seen8 = done_turn d7 p.sender (told_of p told load) (step d7 by_s) ((s_polled d7 here7).turn (told_of p told load) refl
+        here7.plays_sender free7 stage7.queue refl) (granted d7 by_s [] ok7) refl refl (outgoing_at p 0 load) p.source
         (finds_told p old (seen d7) load told stage5.next stage7) stage7.source
 
     stage8 : Stage p (seen d8) [] (Out_done p.id (length p.source)) v2 p.source
@@ -293,9 +303,9 @@ active_old : (most : ℕ) (ws : List In) (t : Taking) → Active (stay most is_g
 active_old most ws t (inl h) = inl (stay_old most is_going ws (Fetching t) h)
 active_old most ws t (inr h) = inr (stay_old most is_going ws (Draining t) h)
 
-older : {o : Offered} {e : ℕ → ℕ → Bool} (d : sight.Desk) → Good o e d → (s r anchor : ℕ) (source : List ℕ)
-    (document address : ℕ) → s ≢ r → Older (pair_of d s r anchor source document address)
-older d g s r anchor source document address apart = record {
+older : {o : Offered} {e : Edits} (d : sight.Desk) → Good o e d → (s r anchor : ℕ) (source : List ℕ)
+    (document address : ℕ) (raw : Bool) → s ≢ r → Older (pair_of d s r anchor source document address raw)
+older d g s r anchor source document address raw apart = record {
   apart = apart;
   outs = λ v h. g.inv.order.out_below s v (stay_old d.most is_open (d.sending s) v h);
   lasts = λ x h. (g.inv.outs.source s x (stay_old d.most is_open (d.sending s) (Open x) h)).below;
@@ -329,7 +339,7 @@ module _ (d : sight.Desk) (s r anchor : ℕ) (source : List ℕ) (w : IsQuiet d 
 
   module _ (last : sight.Desk) (b : Began (sight.picked saved r offered Recorded) r offered.letter last) where
     abbrev p : Pair
-    p = pair_of d s r anchor source b.anchor b.address
+    p = pair_of d s r anchor source b.anchor b.address b.raw
 
     abbrev f : ℕ
     f = d.next_ref + 1
@@ -378,6 +388,7 @@ record IsSavedFor (d : Desk) (s r : List ℕ) (k : ℕ) (leaf : List ℕ) (t u :
     (id : ℕ) : Type 0 where
   pub valid : in_range (command.Save s k r leaf) ≡ true
   pub can : CanSaveFile d s r k t u source
+  pub plays : is_raw u.manner ≡ false
   pub accepted : (step d (command.Save s k r leaf)).1 ≡ reply.Sent id
   pub all : all_granted (step d (command.Save s k r leaf)).0 (eight_polls r s) ≡ true
 
@@ -404,7 +415,7 @@ module _ (d : Desk) (w : IsReached d) (s r : List ℕ) (k : ℕ) (leaf : List �
   quiet : IsQuiet D hs hr k source
   quiet = is_quiet d s r k t u source fitting c.can
 
-  saved_is : IsSaved d d0 hs hr k id
+  saved_is : IsSaved d d0 t hr k id
   saved_is = save_step d s k r leaf t u id fitting c.can.sender_is c.can.receiver_is c.accepted
 
   seen0 : seen d0 ≡ sight.saved D hs k hr
@@ -424,6 +435,14 @@ module _ (d : Desk) (w : IsReached d) (s r : List ℕ) (k : ℕ) (leaf : List �
   named_r = ap (named_in r) saved_is.keys ∙ sym (handle_named r d.tasks) ∙ ap (option_map (λ (y : Task). y.handle))
       c.can.receiver_is
 
+  played_s : IsPlayed d0 hs
+  played_s = ap (raw_in hs) saved_is.keys ∙ sym (raw_is hs d.tasks) ∙ field_is (λ (y : Task). is_raw y.manner) false hs
+      d.tasks t (found_task (has_name s) d.tasks t fitting.handles c.can.sender_is) ∙ saved_is.plays
+
+  played_r : IsPlayed d0 hr
+  played_r = ap (raw_in hr) saved_is.keys ∙ sym (raw_is hr d.tasks) ∙ field_is (λ (y : Task). is_raw y.manner) false hr
+      d.tasks u (found_task (has_name r) d.tasks u fitting.handles c.can.receiver_is) ∙ c.plays
+
   first : IsPolled d0 hr (step d0 (command.Poll r))
   first = is_polled d0 r hr kept0 names.1 named_r
 
@@ -438,17 +457,24 @@ module _ (d : Desk) (w : IsReached d) (s r : List ℕ) (k : ℕ) (leaf : List �
       let none = ap (λ (y : sight.Desk). y.held hr) seen0 ∙ none_held D hs hr k source quiet hr in
       let queue = ap (λ (y : sight.Desk). y.queue) seen0 ∙ offer_queued D hs hr k source quiet in
       subst (λ (y : sight.Desk). Began (sight.picked y hr m Recorded) hr m.letter (seen one)) seen0
-      (other.save_turn d0 hr m (step d0 (command.Poll r)) (first.turn m none queue refl) (granted d0 (command.Poll r)
+      (other.save_turn d0 hr m (step d0 (command.Poll r)) (first.turn m refl played_r none queue refl) (granted d0 (command.Poll r)
       (from_second s r) c.all) (λ z. let y : Recorded ≡ Acknowledge = z in (cc)) refl)
 
   abbrev places : Pair
-  places = pair_of D hs hr k source began.anchor began.address
+  places = pair_of D hs hr k source began.anchor began.address began.raw
 
   places_older : Older places
-  places_older = older (view d) w.good hs hr k source began.anchor began.address c.can.apart
+  places_older = older (masked w.gave (view d)) w.stands.good hs hr k source began.anchor began.address began.raw
+      c.can.apart
 
   here : Here s r places one
-  here = next_here hr (step d0 (command.Poll r)) (record { kept = kept0; sender = named_s; receiver = named_r }) first
+  here = next_here hr (step d0 (command.Poll r)) (record {
+    kept = kept0;
+    plays_sender = played_s;
+    plays_receiver = played_r;
+    sender = named_s;
+    receiver = named_r;
+  }) first
 
   rest : all_granted one (from_second s r) ≡ true
   rest = rest_granted d0 (command.Poll r) (from_second s r) c.all
@@ -467,9 +493,15 @@ module _ (d : Desk) (w : IsReached d) (s r : List ℕ) (k : ℕ) (leaf : List �
       })
 
 pub scrap_alternates : (d : Desk) → IsReached d → ScrapAlternates d
-scrap_alternates d w s r k leaf t u source id valid can accepted all = ends d w s r k leaf t u source id (record {
+scrap_alternates d w s r k leaf t u source id plays valid can accepted all = ends d w s r k leaf t u source id (record {
   valid = valid;
   can = can;
+  plays = plays;
   accepted = accepted;
   all = all;
 })
+
+pub all_scrap_alternate : AfterPlayed AllScrapAlternate
+all_scrap_alternate pool handle ref files cs from ranged q s r k leaf t u source id valid can =
+    always ScrapAlternates scrap_alternates pool handle ref files cs from ranged s r k leaf t u source id
+    (plays_named pool handle ref files cs q r u can.receiver_is) valid can

@@ -22,7 +22,13 @@ use Rattle.rh_laws.specs.MayShow.{MayShow}
 use Rattle.rh_laws.proofs.Addresses.{all-edit}
 use Rattle.rh_laws.proofs.ShownSlots.{alloc-only, AreOnly, claim-only, extend-only, first-only, granted-as, HasOnly, part-only, put-only, without-only}
 use Rattle.rh_laws.proofs.ShownSlots.{written-only}
-use Rattle.rh_laws.proofs.Queues.{death-left, IsMine, Left, poll-taken, sent-is}
+use Rattle.rh_laws.proofs.Queues.{bounce_held-left, death-left, death-seats, first-cut, held-by-all, IsCut, IsMine, Left, poll-taken, polled-seats}
+use Rattle.rh_laws.proofs.Queues.{sent-is, with_held-all}
+use Rattle.rh_laws.proofs.Common.{◌⊎◌, ap, bounce_held, first_for, held_by, Seat}
+use Rattle.rh_defs.specs.Letters.{load_letter}
+use Rattle.rh_defs.specs.Messages.{is_recorded}
+use Rattle.rh_defs.specs.Post.{put_down, with_held}
+use Rattle.rh_defs.specs.RawCommands.{after_answer}
 
 -- ---- desks
 
@@ -34,28 +40,60 @@ HasOwn may t = HasOnly (may t.handle) t.slot
 abbrev pub IsFor : MayShow → Scrap → Parcel → Type 0
 IsFor may file p = (p.code ≡ Acknowledge → ⊥) → p.message.my_ref ≡ file.load → AreOnly (may p.to) file.bytes
 
+-- a held one likewise, by which its holder may show them
+abbrev pub HoldsFor : MayShow → Scrap → Seat → Type 0
+HoldsFor may file s = (p : Parcel) → s.holds ≡ Some p → p.message.my_ref ≡ file.load → AreOnly (may s.handle) file.bytes
+
 -- so it is of each task, and of the scrap file, where there is one
 pub record HaveOwn (may : MayShow) (d : Desk) : Type 0 where
   pub all : AllByRecursion (HasOwn may) d.tasks
   pub file : (file : Scrap) → d.scrap ≡ Some file → AllByRecursion (IsFor may file) d.post.queued
+  pub hand : (file : Scrap) → d.scrap ≡ Some file → AllByRecursion (HoldsFor may file) d.post.seats
   pub given : (file : Scrap) → d.scrap ≡ Some file → file.load < d.post.next_ref
 
--- the refs of queued messages were given
+-- the refs of queued and held messages were given
 abbrev pub HasRefs : Desk → Type 0
-HasRefs d = AllByRecursion (λ (p : Parcel). p.message.my_ref < next_ref d) d.post.queued
+HasRefs d =
+    AllByRecursion (λ (p : Parcel). p.message.my_ref < next_ref d) d.post.queued
+    × AllByRecursion (λ (s : Seat). (p : Parcel) → s.holds ≡ Some p → p.message.my_ref < next_ref d) d.post.seats
 
 -- a desk with the same tasks, messages and scrap file
 pub same-own : {may : MayShow} {d : Desk} (e : Desk) → e.tasks ≡ d.tasks → e.scrap ≡ d.scrap → e.post.queued ≡ d.post.queued →
-    e.post.next_ref ≡ d.post.next_ref → HaveOwn may d → HaveOwn may e
-same-own {may} e tasks scrap queued next g = record {
+    e.post.seats ≡ d.post.seats → e.post.next_ref ≡ d.post.next_ref → HaveOwn may d → HaveOwn may e
+same-own {may} e tasks scrap queued seats next g = record {
   all = subst (AllByRecursion (HasOwn may)) (sym tasks) g.all;
   file = λ file q. subst (AllByRecursion (IsFor may file)) (sym queued) (g.file file (sym scrap ∙ q));
+  hand = λ file q. subst (AllByRecursion (HoldsFor may file)) (sym seats) (g.hand file (sym scrap ∙ q));
   given = λ file q. subst (λ n. file.load < n) (sym next) (g.given file (sym scrap ∙ q));
 }
 
 -- of a message that goes back nothing is asked
-back-for : (may : MayShow) (file : Scrap) (p : Parcel) → IsFor may file (as_returned p)
+pub back-for : (may : MayShow) (file : Scrap) (p : Parcel) → IsFor may file (as_returned p)
 back-for may file p ne = absurd (ne refl)
+
+-- of a seat that holds nothing neither
+empty-for : (may : MayShow) (file : Scrap) (s : Seat) → HoldsFor may file (record s { holds = None })
+empty-for may file s p is = absurd cc
+
+-- a handle may have put down what it held
+put-down-for : (may : MayShow) (file : Scrap) (h : ℕ) {old new : List Seat} → (new ≡ old) ⊎ (new ≡ with_held h None old) →
+    AllByRecursion (HoldsFor may file) old → AllByRecursion (HoldsFor may file) new
+put-down-for may file h {old} seats all = elim seats [
+  | inl e ↦ subst (AllByRecursion (HoldsFor may file)) (sym e) all
+  | inr e ↦ subst (AllByRecursion (HoldsFor may file)) (sym e)
+      (with_held-all (HoldsFor may file) h None (λ s here. empty-for may file s) old all)
+]
+
+-- the first message for a handle, which it may hold then
+first-held : (may : MayShow) (file : Scrap) (h : ℕ) (o : Option (Parcel × List Parcel)) →
+    IfSome o (IsCut (IsFor may file) (back-for may file) h) →
+    IfSome o (λ t. is_recorded t.0.code ≡ true → (s : Seat) → s.handle ≡ h → HoldsFor may file (record s { holds = Some t.0 }))
+first-held may file h None cut = tt
+first-held may file h (Some t) cut = λ recorded s here p is me.
+    let same : t.0 ≡ p = cc in
+    let came : t.0.code ≡ Acknowledge → ⊥ = λ z. let y : is_recorded Acknowledge ≡ true = ap is_recorded (sym z) ∙ recorded in cc in
+    let own = cut.first.agrees came (ap (λ (q : Parcel). q.message.my_ref) same ∙ me) in
+    subst (λ j. AreOnly (may j) file.bytes) (cut.first.own ∙ sym here) own
 
 -- a scrap file that was kept was there
 was-there : (p : Post) (file : Scrap) (o : Option Scrap) → kept_scrap p o ≡ Some file → o ≡ Some file
@@ -65,17 +103,18 @@ was-there p file (Some other) q =
     [ true ↦ λ q. q | false ↦ λ q. absurd cc ] q
 
 -- after a letter was sent
-record Sent (may : MayShow) (l : Letter) (d e : Desk) : Type 0 where
-  own : HaveOwn may e
-  block : ℕ
-  queued : e.post.queued ≡ d.post.queued ++ parcel_of l d.post.next_ref block ∷ []
-  next : e.post.next_ref ≡ d.post.next_ref + 1
+pub record Sent (may : MayShow) (l : Letter) (d e : Desk) : Type 0 where
+  pub own : HaveOwn may e
+  pub block : ℕ
+  pub queued : e.post.queued ≡ d.post.queued ++ parcel_of l d.post.next_ref block ∷ []
+  pub next : e.post.next_ref ≡ d.post.next_ref + 1
+  pub seats : (e.post.seats ≡ d.post.seats) ⊎ (e.post.seats ≡ with_held l.from None d.post.seats)
 
 module _ {may : MayShow} where
   pub task-own : (h : ℕ) (edit : Task → Task) → ((t : Task) → t.handle ≡ h → HasOwn may t → HasOwn may (edit t)) → (d : Desk) →
       HaveOwn may d → HaveOwn may (with_task h edit d)
   unfolding with_task
-  task-own h edit keeps d g = record { all = all-edit (HasOwn may) h edit keeps d.tasks g.all; file = g.file; given = g.given }
+  task-own h edit keeps d g = record { all = all-edit (HasOwn may) h edit keeps d.tasks g.all; file = g.file; hand = g.hand; given = g.given }
 
   pub slot-own : (h : ℕ) (s : Slot) → HasOnly (may h) s → (d : Desk) → HaveOwn may d → HaveOwn may (with_slot h s d)
   slot-own h s stays d g =
@@ -92,7 +131,7 @@ module _ {may : MayShow} where
   ended-own h x edit d g =
       ins-own h edit _ (task-own h _ (λ t same is. without-only is x.buffer) d g)
 
-  letter-sent : (l : Letter) (d : Desk) → HaveOwn may d → OnGrant (Sent may l d) (send_letter l d)
+  pub letter-sent : (l : Letter) (d : Desk) → HaveOwn may d → OnGrant (Sent may l d) (send_letter l d)
   unfolding send_letter with_task
   letter-sent l d g =
       granted-with _ (sent-is (free_pages d) l d.post) λ sent w.
@@ -101,28 +140,53 @@ module _ {may : MayShow} where
           all = all-edit (HasOwn may) l.from (λ (t : Task). record t { last_sent = Some (l, sent.1) }) (λ t same is. is) d.tasks g.all;
           file = λ file q. subst (AllByRecursion (IsFor may file)) (sym w.queued) (append-all (IsFor may file) d.post.queued _
               (g.file file q) (λ code same. absurd (let low = g.given file q in omega (arith, low, same))));
+          hand = λ file q. put-down-for may file l.from w.seats (g.hand file q);
           given = λ file q. let low = g.given file q in let next = w.next in omega (arith, low, next);
         };
         block = w.block;
         queued = w.queued;
         next = w.next;
+        seats = w.seats;
       })
 
   pub letter-own : (l : Letter) (d : Desk) → HaveOwn may d → OnGrant (HaveOwn may) (send_letter l d)
   letter-own l d g = granted-as (λ e (w : Sent may l d e). w.own) (letter-sent l d g)
 
   -- a post that messages went out of
-  with_delivered-own : (p : Post) (d : Desk) → ((file : Scrap) → Left (IsFor may file) (back-for may file) d.post p) → HaveOwn may d →
-      HaveOwn may (with_delivered p d)
+  pub with_delivered-own : (p : Post) (d : Desk) → ((file : Scrap) → Left (IsFor may file) (back-for may file) d.post p) →
+      ((file : Scrap) → AllByRecursion (IsFor may file) d.post.queued → AllByRecursion (HoldsFor may file) d.post.seats →
+      AllByRecursion (HoldsFor may file) p.seats) → HaveOwn may d → HaveOwn may (with_delivered p d)
   unfolding with_delivered
-  with_delivered-own p d left g = record {
+  with_delivered-own p d left hand g = record {
     all = g.all;
+    hand = λ file q. let there = was-there p file d.scrap q in hand file (g.file file there) (g.hand file there);
     file = λ file q. (left file).mail (g.file file (was-there p file d.scrap q));
     given = λ file q. subst (λ n. file.load < n) (sym (left file).next) (g.given file (was-there p file d.scrap q));
   }
 
   pub polled-own : (h : ℕ) (d : Desk) → HaveOwn may d → HaveOwn may (with_delivered (post_poll h d.post).0 d)
-  polled-own h d g = with_delivered-own _ d (λ file. (poll-taken (IsFor may file) (back-for may file) h d.post).left) g
+  polled-own h d g =
+      let between : Post = bounce_held h (held_by h d.post.seats) d.post in
+      with_delivered-own _ d (λ file. (poll-taken (IsFor may file) (back-for may file) h d.post).left)
+      (λ file mail all. polled-seats (HoldsFor may file) (empty-for may file) h d.post
+      (first-held may file h (first_for h between.queued) (first-cut (IsFor may file) (back-for may file) h between.queued
+      ((bounce_held-left (IsFor may file) (back-for may file) h (held_by h d.post.seats) d.post).mail mail))) all) g
+
+  -- a task may put down what it holds
+  pub put_down-own : (h : ℕ) (d : Desk) → HaveOwn may d → HaveOwn may (with_delivered (put_down h d.post) d)
+  put_down-own h d g = with_delivered-own (put_down h d.post) d (λ file. record { mail = λ all. all; next = refl })
+      (λ file mail all. put-down-for may file h (inr refl) all) g
+
+  -- the scrap file kept or given up after a message
+  pub answered-own : (sent : Desk) → HaveOwn may sent → HaveOwn may (after_answer sent)
+  answered-own sent g = with_delivered-own sent.post sent (λ file. record { mail = λ all. all; next = refl }) (λ file mail all. all) g
+
+  -- what a task holds, if it is the DataLoad of the scrap file
+  pub held-for : (h : ℕ) (d : Desk) → HaveOwn may d → (file : Scrap) → d.scrap ≡ Some file → (p : Parcel) → held_by h d.post.seats ≡ Some p →
+      p.message.my_ref ≡ file.load → AreOnly (may h) file.bytes
+  held-for h d g file there p is me =
+      let s = held-by-all (HoldsFor may file) h d.post.seats p (g.hand file there) is in
+      subst (λ j. AreOnly (may j) file.bytes) s.1.1.0 (s.1.0 p s.1.1.1 me)
 
   -- the message that a poll takes, if it is the DataLoad of the scrap file
   pub taken-for : (h : ℕ) (d : Desk) → HaveOwn may d → (m : Parcel) → (post_poll h d.post).1 ≡ Some m → (m.code ≡ Acknowledge → ⊥) → (file : Scrap) →
@@ -135,7 +199,31 @@ module _ {may : MayShow} where
       subst (λ j. AreOnly (may j) file.bytes) mine.own (mine.agrees ne (sym load))
 
   pub death-own : (h : ℕ) (d : Desk) → HaveOwn may d → HaveOwn may (with_delivered (post_death h d.post) d)
-  death-own h d g = with_delivered-own _ d (λ file. death-left (IsFor may file) (back-for may file) h d.post) g
+  death-own h d g = with_delivered-own _ d (λ file. death-left (IsFor may file) (back-for may file) h d.post)
+      (λ file mail all. death-seats (HoldsFor may file) (empty-for may file) h d.post all) g
+
+-- a new scrap file, whose DataLoad was sent to a task that may show its bytes; no message had the DataLoad's ref
+pub filed-own : (may : MayShow) (l : Letter) (d sent : Desk) (bytes : List ℕ) → HasRefs d → Sent may l d sent → AreOnly (may l.to) bytes →
+    HaveOwn may (record sent { scrap = Some (record { load = next_ref d; bytes = bytes }) })
+filed-own may l d sent bytes refs w e = record {
+  all = w.own.all;
+  file = λ other q. let one : file ≡ other = cc in
+      subst (λ (z : Scrap). AllByRecursion (IsFor may z) sent.post.queued) one
+      (subst (AllByRecursion (IsFor may file)) (sym w.queued) (append-all (IsFor may file) d.post.queued _
+      (all-mono {Q = IsFor may file} (λ (p : Parcel) (low : p.message.my_ref < next_ref d) code same.
+      absurd (omega (arith, low, same))) d.post.queued refs.0)
+      (λ code same. e)));
+  hand = λ other q. let one : file ≡ other = cc in
+      subst (λ (z : Scrap). AllByRecursion (HoldsFor may z) sent.post.seats) one
+      (put-down-for may file l.from w.seats (all-mono {Q = HoldsFor may file}
+      (λ (s : Seat) (low : (p : Parcel) → s.holds ≡ Some p → p.message.my_ref < next_ref d) p is me.
+      let under = low p is in absurd (omega (arith, under, me))) d.post.seats refs.1));
+  given = λ other q. let one : file ≡ other = cc in
+      subst (λ (z : Scrap). z.load < sent.post.next_ref) one (let next = w.next in omega (arith, next));
+}
+  where
+    file : Scrap
+    file = record { load = next_ref d; bytes = bytes }
 
 -- ---- what is done with a message
 
@@ -197,21 +285,13 @@ module _ (may : MayShow) (t : Task) (own : HasOwn may t) where
         IsAsked d (send_action.SaveFile c) → OnGrant (Leaves may) (save_scrap d t c source)
     unfolding save_scrap
     save_scrap-own c source e asked =
-        let file : Scrap = record { load = next_ref d; bytes = source.here.bytes } in
         granted-past _ _ _ λ busy. granted-both _ (any-grant _) λ y u. granted-past _ _ _ λ room.
-        granted-with _ (letter-sent _ _ (same-own (wider _ d) refl refl refl refl g)) λ sent w.
+        granted-with _ (letter-sent _ _ (same-own (wider _ d) refl refl refl refl refl g)) λ sent w.
+        let refs : HasRefs d = asked.1 in
         granted (record {
-          desk = outs-own h _ _ (record {
-            all = w.own.all;
-            file = λ other q. let one : file ≡ other = cc in
-                subst (λ (z : Scrap). AllByRecursion (IsFor may z) sent.post.queued) one
-                (subst (AllByRecursion (IsFor may file)) (sym w.queued) (append-all (IsFor may file) d.post.queued _
-                (all-mono {Q = IsFor may file} (λ (p : Parcel) (low : p.message.my_ref < next_ref d) code same.
-                absurd (omega (arith, low, same))) d.post.queued asked.1)
-                (λ code same. subst (λ j. AreOnly (may j) source.here.bytes) (sym asked.0) e)));
-            given = λ other q. let one : file ≡ other = cc in
-                subst (λ (z : Scrap). z.load < sent.post.next_ref) one (let next = w.next in omega (arith, next));
-          });
+          desk = outs-own h _ _ (filed-own may (load_letter h c (length source.here.bytes)) d sent source.here.bytes refs
+              (record { own = w.own; block = w.block; queued = w.queued; next = w.next; seats = w.seats })
+              (subst (λ j. AreOnly (may j) source.here.bytes) (sym asked.0) e));
         })
 
     send_with-own : (c : SendAction) (source : Split Flex) → AreOnly (may (sender.transfer_of c).recipient) source.here.bytes → IsAsked d c →
@@ -289,7 +369,12 @@ module _ (may : MayShow) (t : Task) (own : HasOwn may t) where
     load_file-own c (Some file) stays = elim (eqb_tells file.load c.answers) [
       | inl w ↦ rw w.0 (or_else-keeps (Leaves may) _
           (granted-with _ (appended-own d g c.transfer.anchor file.bytes (stays file refl w.1)) λ longer all.
-          granted (loaded-own (record longer { scrap = None }) (record { all = all.all; file = λ other q. absurd cc; given = λ other q. absurd cc }) c
+          granted (loaded-own (record longer { scrap = None }) (record {
+            all = all.all;
+            file = λ other q. absurd cc;
+            hand = λ other q. absurd cc;
+            given = λ other q. absurd cc;
+          }) c
           (length file.bytes)))
           (λ refusal. ins-with d g _ _))
       | inr w ↦ rw w.0 (ignored-own d g)
@@ -321,7 +406,7 @@ module _ (may : MayShow) (t : Task) (own : HasOwn may t) where
     module _ (m : Parcel) (offered : Offered) (refs : HasRefs d) where
       delivered-own : (b : Body) → Filed m → Leaves may (delivered d t m b)
       unfolding delivered
-      delivered-own (body.DataSave file) filed = perform_take-own _ (save-does (Takes d) t.taking _ _ _ tt)
+      delivered-own (body.DataSave file) filed = perform_take-own _ (save-does (Takes d) t.taking _ _ _ _ tt)
       delivered-own (body.DataSaveAck file) filed =
           perform_send-own d g _ (open-does (Sends d) t.sending (sender.file_for m.message.from m.message.my_ref) _ (λ x has p.
           let both = and_left _ (x.id == x.last) p in
@@ -332,6 +417,7 @@ module _ (may : MayShow) (t : Task) (own : HasOwn may t) where
           chosen (Leaves may) _ _ _ (ignored-own d g) (perform_send-own d g _ (open-does (Sends d) t.sending _ _ (λ x has p. (offered x has, tt))))
       delivered-own (body.RamTransmit buffer n) filed =
           perform_take-own _ (transmit-does (Takes d) t.taking _ _ _ _ _ _ (λ x has. tt) (λ x e has. tt))
+      delivered-own (body.Other o) filed = ignored-own d g
 
       bounced_to-own : (b : Body) → Leaves may (bounced_to d t m b)
       unfolding bounced_to
@@ -339,6 +425,7 @@ module _ (may : MayShow) (t : Task) (own : HasOwn may t) where
       bounced_to-own (body.DataLoadAck file) = ignored-own d g
       bounced_to-own (body.RamFetch buffer amount) =
           perform_take-own _ (bounce-does (Takes d) t.taking _ (λ x has. tt) (λ x e has. tt))
+      bounced_to-own (body.Other o) = ignored-own d g
       bounced_to-own b = fail_sending-own d g _
 
       pub handled-own : (c : EventCode) → ((c ≡ Acknowledge → ⊥) → Filed m) → HaveOwn may (handled d t m c).0

@@ -3,7 +3,7 @@
 use Rattle.rh_laws.proofs.Common.{[], ap, Bool, buffer_at, cond, drop, drop-map, false, Flex, Follows, Granted, heap_block_at, Hole, List, map, OnGrant, refl}
 use Rattle.rh_laws.proofs.Common.{Segment, Slot, slot_alloc, slot_block, slot_claim, slot_extend, slot_free, slot_mid, slot_put, slot_release, slot_resize}
 use Rattle.rh_laws.proofs.Common.{Split, subst, sym, take, take-map, true, Used, without_buffer, written_in, ℕ, ℤ, ◌++◌, ◌==◌, ◌||◌, ◌∙◌, ◌∷◌, ◌≡◌}
-use Rattle.rh_defs.specs.Places.{first_bytes}
+use Rattle.rh_defs.specs.Places.{bytes_held, first_bytes, written_held}
 use Rattle.rh_defs.proofs.Chains as chains
 use Rattle.rh_laws.specs.Renaming.{has_byte, renamed_block, renamed_segment, renamed_slot}
 use Rattle.rh_laws.proofs.RenamedParts.{By}
@@ -11,7 +11,7 @@ use Rattle.rh_laws.proofs.RenamedDesks.{result-by}
 use Rattle.rh_laws.proofs.RenamedLaws.{or-right, zero-stays}
 use Rattle.rh_laws.proofs.RenamedSlots.{buffer_at-renamed, first_bytes-renamed, heap_block_at-renamed, renamed_given, renamed_here, slot_alloc-renamed}
 use Rattle.rh_laws.proofs.RenamedSlots.{slot_block-renamed, slot_claim-renamed, slot_extend-renamed, slot_free-renamed, slot_mid-renamed, slot_put-renamed}
-use Rattle.rh_laws.proofs.RenamedSlots.{slot_release-renamed, slot_resize-renamed, written_in-renamed}
+use Rattle.rh_laws.proofs.RenamedSlots.{bytes_held-renamed, slot_release-renamed, slot_resize-renamed, written_held-renamed, written_in-renamed}
 
 -- ---- the bytes of a list
 
@@ -108,6 +108,16 @@ module _ {list : List ℕ} {s : Slot} (has : HasOnly list s) where
         ∙ ap (λ o. written_in address (map f bytes) o (renamed_slot f s)) (sym (buffer_at-renamed f address room s))
         ∙ ap (λ u. written_in address (map f bytes) (buffer_at address room u) u) has.same
         ∙ ap (λ l. written_in address l (buffer_at address room s) s) e;
+  }
+
+  -- bytes that are read, and bytes that are written, at an address
+  pub read-only : (x n : ℕ) → AreOnly list (bytes_held x n s)
+  read-only x n = sym (bytes_held-renamed f x n s) ∙ ap (bytes_held x n) has.same
+
+  pub write-only : (x : ℕ) (bytes : List ℕ) → AreOnly list bytes → HasOnly list (written_held x bytes s)
+  write-only x bytes e = record {
+    same =
+        sym (written_held-renamed f x bytes s) ∙ ap (λ u. written_held x (map f bytes) u) has.same ∙ ap (λ l. written_held x l s) e;
   }
 
 -- ---- more bytes

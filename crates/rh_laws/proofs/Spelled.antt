@@ -15,15 +15,18 @@ use Rattle.hex.specs.Hex.{lower_digits, decode_of, is_hex_digit}
 use Rattle.hex.proofs.HexLemmas.{decode_of-ok, length-encode_with}
 use Rattle.rh_defs.specs.declared.fault.LineFault.{LineFault}
 use Rattle.rh_defs.specs.declared.fault.LineFault.TheVariants.{TooLong, Count, Word}
-use Rattle.rh_defs.specs.Grammar.{Form, Name, Leaf, Ref, Delta, Address, Bytes, Value, Values, Maker, Spelling, spelled_by}
+use Rattle.rh_defs.specs.Grammar.{Form, Name, Leaf, Ref, Delta, Address, Bytes, Data, Choices, Third, First, Middle, Last, Value, Values, Maker, Spelling}
+use Rattle.rh_defs.specs.Grammar.{spelled_by}
 use Rattle.rh_defs.proofs.GrammarLaws.{Spells, AllSpell, rows-spell}
 use Rattle.rh_defs.specs.Forms.{is_graphic, last_ref}
 use Rattle.rh_defs.specs.Chain.{◌>>=◌}
 use Rattle.rh_defs.specs.Line.{Meaning, words_of, name_at, number_at, delta_at, signed, is_negative, unsigned, is_address, address_at, leaf_at}
-use Rattle.rh_defs.specs.Line.{choice_at, bytes_read_at, value_at, command_from, is_count, follow, row_means, command_by}
+use Rattle.rh_defs.specs.OtherBodies.{is_whole as are_words}
+use Rattle.rh_defs.specs.Line.{choice_at, choices_at, data_read_at, bytes_read_at, value_at, command_from, is_count, follow, row_means, command_by}
 use Rattle.rh_defs.specs.Script.{commands_in}
 use Rattle.rh_safety.proofs.Lines.{commands_in_range}
-use Rattle.rh_laws.specs.Printer.{form_text, texts, words_spelled, command_words, is_word, is_sized, are_sized, is_typed, has_sizes, line_of, fits_a_line}
+use Rattle.rh_laws.specs.Printer.{form_text, third_word, texts, words_spelled, command_words, is_word, is_sized, are_sized, is_typed, has_sizes, line_of}
+use Rattle.rh_laws.specs.Printer.{fits_a_line}
 use Rattle.rh_laws.specs.Printer.{AreSpelled}
 use Rattle.rh_laws.proofs.Lengths.{decimal_short, hex_short, hex_word}
 
@@ -95,6 +98,7 @@ cost_next ws n some =
 -- whether the words of a choice have bytes
 abbrev pub is_proper : Form → Bool
 is_proper (Choice first second) = nat_le 1 (length first) && nat_le 1 (length second)
+is_proper (Choices first second third) = nat_le 1 (length first) && (nat_le 1 (length second) && nat_le 1 (length third))
 is_proper (Maybe form) = is_proper form
 is_proper form = true
 
@@ -306,6 +310,55 @@ choice_printed words n first second is_first proper e =
           (proper_choice first second is_first proper)) same;
     }
 
+-- one of three words
+choices_by : (words : Words) (n : ℕ) (first second third : List ℕ) (which : Third) (is also : Bool) →
+    bytes_eq (nth_word words n) first ≡ is → bytes_eq (nth_word words n) second ≡ also →
+    choices_at words n first second third ≡ Ok which → nth_word words n ≡ third_word first second third which
+unfolding choices_at
+choices_by words n first second third which true also q r e =
+    let read : Ok First ≡ Ok which = subst (λ m. m ≡ Ok which) (rw q refl) e in
+    let same : First ≡ which = cc in
+    subst (λ v. nth_word words n ≡ third_word first second third v) same (same_word (nth_word words n) first q)
+choices_by words n first second third which false true q r e =
+    let read : Ok Middle ≡ Ok which = subst (λ m. m ≡ Ok which) (rw (q, r) refl) e in
+    let same : Middle ≡ which = cc in
+    subst (λ v. nth_word words n ≡ third_word first second third v) same (same_word (nth_word words n) second r)
+choices_by words n first second third which false false q r e =
+    let read : (if bytes_eq (nth_word words n) third then Ok Last else Err (Word n)) ≡ Ok which = subst
+    (λ m. m ≡ Ok which) (rw (q, r) refl) e in
+    let told = if_ok (bytes_eq (nth_word words n) third) Last which (Word n) read in
+    subst (λ v. nth_word words n ≡ third_word first second third v) told.1 (same_word (nth_word words n) third told.0)
+
+proper_third : (first second third : List ℕ) (which : Third) → is_proper (Choices first second third) ≡ true →
+    nat_le 1 (length (third_word first second third which)) ≡ true
+proper_third first second third First h = and_left (nat_le 1 (length first)) _ h
+proper_third first second third Middle h =
+    and_left (nat_le 1 (length second)) (nat_le 1 (length third)) (and_right (nat_le 1 (length first)) _ h)
+proper_third first second third Last h =
+    and_right (nat_le 1 (length second)) (nat_le 1 (length third)) (and_right (nat_le 1 (length first)) _ h)
+
+choices_printed : (words : Words) (n : ℕ) (first second third : List ℕ) (which : Third) →
+    is_proper (Choices first second third) ≡ true → choices_at words (n + 1) first second third ≡ Ok which →
+    IsPrinted (Choices first second third) words n which
+choices_printed words n first second third which proper e =
+    let w = nth_word words (n + 1) in
+    let same = choices_by words (n + 1) first second third which (bytes_eq w first) (bytes_eq w second) refl refl e in
+    record {
+      sized = refl;
+      short = itself words n (third_word first second third which) (subst (λ v. nat_le 1 (length v) ≡ true) (sym same)
+          (proper_third first second third which proper)) same;
+    }
+
+-- the data of a message
+data_printed : (words : Words) (n : ℕ) (bytes : List ℕ) → data_read_at words (n + 1) ≡ Ok bytes →
+    IsPrinted Data words n bytes
+unfolding data_read_at
+data_printed words n bytes e =
+    let told = then_ok (bytes_read_at words (n + 1)) (λ bytes. if are_words bytes then Ok bytes else Err (Word (n + 1))) bytes e in
+    let one = if_ok (are_words told.0) told.0 bytes (Word (n + 1)) told.2 in
+    let printed = bytes_printed words n bytes (told.1 ∙ ap Ok one.1) in
+    record { sized = printed.sized; short = printed.short }
+
 cost_more : (ws : Words) (n : ℕ) → cost (take n ws) ≤ cost (take (suc n) ws)
 cost_more [] zero = omega arith
 cost_more [] (suc n) = omega arith
@@ -333,6 +386,8 @@ value_printed Ref words n value proper e =
 value_printed Delta words n value proper e = delta_printed words n value e
 value_printed Address words n value proper e = address_printed words n value e
 value_printed Bytes words n value proper e = bytes_printed words n value e
+value_printed Data words n value proper e = data_printed words n value e
+value_printed (Choices first second third) words n value proper e = choices_printed words n first second third value proper e
 value_printed (Choice first second) words n value proper e = choice_printed words n first second value proper e
 value_printed (Maybe form) words n None proper e = record { sized = refl; short = omega (arith, cost_more words n) }
 value_printed (Maybe form) words n (Some value) proper e =

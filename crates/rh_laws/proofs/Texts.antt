@@ -4,12 +4,13 @@ use Rattle.rh_laws.proofs.Common.{length-append, refl, sym, subst, ap, ◌∙◌
 use Rattle.rh_laws.proofs.Common.{list_all, decimal, signed_decimal, bytes_eq, nat_tests, bytes_eq-Decides, encode_lower, Command, Unknown, is_name, is_leaf}
 use Rattle.rh_laws.proofs.Common.{◌>>=◌, is_delta, Number, Choice, Maybe, GrammarRow, rows, nth_word, grammar_row, command_of, Words, address, and_left}
 use Rattle.rh_laws.proofs.Common.{and_right}
-use Rattle.rh_defs.specs.Grammar.{Form, Name, Leaf, Ref, Delta, Address, Bytes, Value, Values, Maker, spelled_by}
+use Rattle.rh_defs.specs.Grammar.{Form, Name, Leaf, Ref, Delta, Address, Bytes, Data, Choices, Third, First, Middle, Last, Value, Values, Maker, spelled_by}
 use Rattle.rh_defs.specs.Forms.{last_ref}
 use Rattle.rh_defs.specs.Range.{is_of}
 use Rattle.rh_defs.proofs.GrammarLaws.{made}
-use Rattle.rh_defs.specs.Line.{choice_at, value_at, command_from, is_count, command_by}
-use Rattle.rh_laws.specs.Printer.{form_text, texts, words_spelled, is_sized}
+use Rattle.rh_defs.specs.OtherBodies.{is_whole as are_words}
+use Rattle.rh_defs.specs.Line.{choice_at, choices_at, data_read_at, value_at, command_from, is_count, command_by}
+use Rattle.rh_laws.specs.Printer.{form_text, third_word, texts, words_spelled, is_sized}
 use Rattle.rh_laws.proofs.Words.{is_whole}
 use Rattle.rh_laws.proofs.Numbers.{decimal_is_whole}
 use Rattle.rh_laws.proofs.Readers.{name_is_whole, leaf_is_whole, number_read, delta_read, delta_is_whole, address_read, address_is_whole, bytes_read}
@@ -34,6 +35,9 @@ is_wanted form = true
 abbrev is_clear : Form → Bool
 is_clear (Number low high) = nat_lt high (2 ^ 32)
 is_clear (Choice first second) = is_whole first && is_whole second && not (bytes_eq second first)
+is_clear (Choices first second third) =
+    (is_whole first && (is_whole second && is_whole third))
+    && (not (bytes_eq second first) && (not (bytes_eq third first) && not (bytes_eq third second)))
 is_clear (Maybe form) = is_wanted form && is_clear form
 is_clear form = true
 
@@ -101,6 +105,47 @@ choice_read words n first second false clear is =
     let apart = not_first (bytes_eq second first) (and_right _ (not (bytes_eq second first)) clear) in
     rw (is, apart, (bytes_eq-Decides second second).1 refl) refl
 
+-- three words that are told apart
+record AreThree (first second third : List ℕ) : Type 0 where
+  whole : (which : Third) → is_whole (third_word first second third which) ≡ true
+  second_first : bytes_eq second first ≡ false
+  third_first : bytes_eq third first ≡ false
+  third_second : bytes_eq third second ≡ false
+
+are_three : (first second third : List ℕ) → is_clear (Choices first second third) ≡ true → AreThree first second third
+are_three first second third clear =
+    let words = and_left (is_whole first && (is_whole second && is_whole third)) _ clear in
+    let apart = and_right (is_whole first && (is_whole second && is_whole third)) _ clear in
+    let rest = and_right (is_whole first) (is_whole second && is_whole third) words in
+    let others = and_right (not (bytes_eq second first)) (not (bytes_eq third first) && not (bytes_eq third second)) apart in
+    record {
+      whole = λ which. by which (and_left (is_whole first) (is_whole second && is_whole third) words)
+          (and_left (is_whole second) (is_whole third) rest) (and_right (is_whole second) (is_whole third) rest);
+      second_first = not_first _ (and_left (not (bytes_eq second first)) _ apart);
+      third_first = not_first _ (and_left (not (bytes_eq third first)) (not (bytes_eq third second)) others);
+      third_second = not_first _ (and_right (not (bytes_eq third first)) (not (bytes_eq third second)) others);
+    }
+  where
+    by : (which : Third) → is_whole first ≡ true → is_whole second ≡ true → is_whole third ≡ true →
+        is_whole (third_word first second third which) ≡ true
+    by First a b c = a
+    by Middle a b c = b
+    by Last a b c = c
+
+choices_read : (words : Words) (n : ℕ) (first second third : List ℕ) (which : Third) → AreThree first second third →
+    nth_word words n ≡ third_word first second third which → choices_at words n first second third ≡ Ok which
+unfolding choices_at
+choices_read words n first second third First are is = rw (is, (bytes_eq-Decides first first).1 refl) refl
+choices_read words n first second third Middle are is =
+    rw (is, are.second_first, (bytes_eq-Decides second second).1 refl) refl
+choices_read words n first second third Last are is =
+    rw (is, are.third_first, are.third_second, (bytes_eq-Decides third third).1 refl) refl
+
+data_read : (words : Words) (n : ℕ) (bytes : List ℕ) → nth_word words n ≡ encode_lower bytes → nat_le 1 (length bytes) ≡ true →
+    list_all (λ b. nat_lt b 256) bytes ≡ true → are_words bytes ≡ true → data_read_at words n ≡ Ok bytes
+unfolding data_read_at ◌>>=◌
+data_read words n bytes is some small whole = rw (bytes_read words n bytes is some small, whole) refl
+
 -- what can't be left out is one word
 one_text : (form : Form) (value : Value form) → is_wanted form ≡ true → (w : List ℕ) × (form_text form value ≡ w ∷ [])
 one_text Name name wanted = (name, refl)
@@ -110,6 +155,8 @@ one_text Ref ref wanted = (decimal ref, refl)
 one_text Delta by wanted = (signed_decimal by, refl)
 one_text Address place wanted = (address place, refl)
 one_text Bytes bytes wanted = (encode_lower bytes, refl)
+one_text Data bytes wanted = (encode_lower bytes, refl)
+one_text (Choices first second third) which wanted = (third_word first second third which, refl)
 one_text (Choice first second) is_first wanted = (cond is_first first second, refl)
 one_text (Maybe form) value wanted = absurd cc
 
@@ -174,6 +221,22 @@ word_read Bytes words n bytes rest wanted clear h =
       whole = rw (bytes_are_whole bytes some small) refl;
       read = λ stand.
           bytes_read words (n + 1) bytes (word_first words n (encode_lower bytes) rest stand) some small;
+    }
+word_read Data words n bytes rest wanted clear h =
+    let front = and_left (nat_le 1 (length bytes) && are_words bytes) (list_all (λ b. nat_lt b 256) bytes) h in
+    let small = and_right (nat_le 1 (length bytes) && are_words bytes) (list_all (λ b. nat_lt b 256) bytes) h in
+    let some = and_left (nat_le 1 (length bytes)) (are_words bytes) front in
+    let whole = and_right (nat_le 1 (length bytes)) (are_words bytes) front in
+    record {
+      whole = rw (bytes_are_whole bytes some small) refl;
+      read = λ stand. data_read words (n + 1) bytes (word_first words n (encode_lower bytes) rest stand) some small whole;
+    }
+word_read (Choices first second third) words n which rest wanted clear h =
+    let are = are_three first second third clear in
+    record {
+      whole = rw (are.whole which) refl;
+      read = λ stand. choices_read words (n + 1) first second third which are
+          (word_first words n (third_word first second third which) rest stand);
     }
 word_read (Choice first second) words n is_first rest wanted clear h = record {
   whole = rw (choice_whole first second is_first clear) refl;

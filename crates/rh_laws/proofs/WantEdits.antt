@@ -297,20 +297,20 @@ killed-waits {h} {w} d k sc ne live keeps x = elim x [
 
 -- ---- a task begins
 
-pub started-on : (d : Desk) (buf : ℕ) (deaf no_fetch : Bool) (w : Want) → Onward d (started d buf deaf no_fetch) w
-started-on d buf deaf no_fetch w = record {
+pub started-on : (d : Desk) (buf : ℕ) (deaf no_fetch raw : Bool) (w : Want) → Onward d (started d buf deaf no_fetch raw) w
+started-on d buf deaf no_fetch raw w = record {
   queue = λ y has me. Was.in_queue y has refl;
   held = λ j y is me. Was.in_hand j is;
 }
 
-pub started-waits : {h : ℕ} {w : Want} (d : Desk) (buf : ℕ) (deaf no_fetch : Bool) → h ≢ d.next_handle → WaitsFor d h w →
-    WaitsFor (started d buf deaf no_fetch) h w
-started-waits {h} {w} d buf deaf no_fetch ne x = elim x [
-  | inl u ↦ inl (still-asks s (started-on d buf deaf no_fetch w) u.live u)
+pub started-waits : {h : ℕ} {w : Want} (d : Desk) (buf : ℕ) (deaf no_fetch raw : Bool) → h ≢ d.next_handle → WaitsFor d h w →
+    WaitsFor (started d buf deaf no_fetch raw) h w
+started-waits {h} {w} d buf deaf no_fetch raw ne x = elim x [
+  | inl u ↦ inl (still-asks s (started-on d buf deaf no_fetch raw w) u.live u)
   | inr a ↦ inr (still-told s a (λ f e l. e) a.queued)
 ]
   where
-    s : Same d (started d buf deaf no_fetch) h
+    s : Same d (started d buf deaf no_fetch raw) h
     s = same (put_other d.buf d.next_handle buf h ne) (put_other d.file d.next_handle no_fetch h ne)
 
 -- ---- records are others, and a letter is sent, or not

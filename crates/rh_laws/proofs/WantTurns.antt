@@ -37,6 +37,7 @@ use Rattle.rh_laws.proofs.WantDeeds.{Anew, Goes, IsSpent, Meets, Replying, Sends
 use Rattle.rh_laws.proofs.WantRecords.{InWant, NoneIn, NoneOut, OnlyIn, OnlyOut, Ready, asks-fits, by_ask, by_drain, by_fetch, deed, files, fits, idle}
 use Rattle.rh_laws.proofs.WantRecords.{ids-moved, in-deed, in-want, ins-moved, none-sent, out-deed, out-want, outs-stay, parts, replies, sort_of, tells-fits}
 use Rattle.rh_laws.proofs.WantRecords.{un}
+use Rattle.rh_laws.proofs.PlayedDesks.{masked_taken, no_one}
 
 less-of : (a b : ℕ) → nat_lt a b ≡ true → a < b
 less-of a b e = elim (leb_tells (suc a) b) [ inl w ↦ w.1 | inr w ↦ absurd (let z = w.0 in (cc)) ]
@@ -395,7 +396,8 @@ module _ (Q : sight.Desk → Type 0) {o : Offers} {e : Edits} (d : Desk) (t : Ta
     part-sent : Q (view (with_sending k (sender.sent a p (next_ref d)) (poured d t m buffer size p s r sent)))
     part-sent =
         out-deed D k (M b) bf (Some n) x.id (sender.after_sent a p D.next_ref) D.block _ D.scrap (id_of p.is_last)
-        (sends_seen d t m is buffer size x s r sent w (reaches d t m is buffer size tk x it.has manner passes lives))
+        (sends_seen d t m is buffer size x s r sent w
+        (reaches no_one (λ j. false) d t m is buffer size (masked_taken o e D k (letter_of m b) tk) x it.has manner passes lives))
         (out-none false code b bf x it) (out-own false code b bf x it) (anew p.is_last refl)
         (sends-one b bf D.scrap n (reply-sent b bf D.scrap n refl refl refl (not-back m.code code) (unread p.is_last) refl
         (tells-bytes buffer size a n refl refl refl refl (omega arith)))) (turn p.is_last refl) (λ f z. z)
@@ -431,7 +433,16 @@ module _ (Q : sight.Desk → Type 0) {o : Offers} {e : Edits} (d : Desk) (t : Ta
   act-waits (claims {file = x} c g p sent few free claim alloc l) code bf tk =
       let b : Body = body.DataSave x in
       let w = claims_seen d t m is b c g p sent few free claim alloc l in
-      let f : Taking = record { id = m.message.my_ref; sender = m.message.from; anchor = w.anchor; buffer = w.address; count = 0; fetch = D.next_ref } in
+      let f : Taking = record {
+        id = m.message.my_ref;
+        sender = m.message.from;
+        anchor = w.anchor;
+        buffer = w.address;
+        count = 0;
+        fetch = D.next_ref;
+        raw =
+            w.raw;
+      } in
       let n : Message = record {
         code = Recorded;
         to = m.message.from;
@@ -470,7 +481,7 @@ module _ (Q : sight.Desk → Type 0) {o : Offers} {e : Edits} (d : Desk) (t : Ta
       (sight.longer D k f n).block refl refl (ends_seen d t m is n f longer l (In_failed f.id f.anchor (f.count + n)))
   act-waits (takes_full {buffer = buffer} {n = size} f longer sent it l full s) code bf tk =
       let b : Body = body.RamTransmit buffer size in
-      let g : Taking = record { id = f.id; sender = f.sender; anchor = f.anchor; buffer = f.buffer; count = f.count + size; fetch = D.next_ref } in
+      let g : Taking = record { id = f.id; sender = f.sender; anchor = f.anchor; buffer = f.buffer; count = f.count + size; fetch = D.next_ref; raw = f.raw } in
       let from : m.message.from ≡ f.sender =
       is_equal _ _ (and_left (nat_eq m.message.from f.sender) _ (and_left _ (nat_eq buffer f.buffer) (and_left _ (nat_le size t.buffer) it.passes))) in
       let n : Message = record {

@@ -41,7 +41,7 @@ module _ (o : Offers) (t : Task) (own : Owns o t) (w n : ℕ) (held : Option Par
 
   module _ {p : ℕ} (room : held_work held + 1 ≤ p) where
     -- no message was sent
-    plain-falls : (d : Desk) (x : Outcome) → On d → Falls p (d, x)
+    pub plain-falls : (d : Desk) (x : Outcome) → On d → Falls p (d, x)
     plain-falls d x is = record {
       work = let y = is.work in omega (arith, y, room);
       next = let y = is.next in omega (arith, y);

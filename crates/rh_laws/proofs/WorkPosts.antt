@@ -4,6 +4,7 @@ use Rattle.rh_laws.proofs.Common.{if◌then◌else◌, nat_eq, IfSome, eq-eqb, e
 use Rattle.rh_laws.proofs.Common.{Post, Seat, as_returned, bounce_held, first_for, has_seat, held_by, post_poll, post_send, taken_from, OnGrant, chosen}
 use Rattle.rh_laws.proofs.Common.{granted, granted-both, granted-then, none_some, any-grant}
 use Rattle.rh_defs.specs.declared.message.Body.TheVariants as body
+use Rattle.rh_defs.specs.AnyMessage.{read_body}
 use Rattle.rh_defs.specs.Messages.{is_recorded}
 use Rattle.rh_defs.specs.Post.{answers_held, behind_first, held_or_released, parcel_of, put_down, queued_in, with_held, without_block}
 use Rattle.rh_defs.proofs.Cuts.{total-append}
@@ -33,7 +34,7 @@ queued-some Acknowledge b = back-some b
 -- what is held leaves something to do
 pub held-some : (held : Option Parcel) → held_work held ≡ 0 → held ≡ None
 held-some None e = refl
-held-some (Some p) e = absurd (let z = back-some p.message.body in omega (arith, z, e))
+held-some (Some p) e = absurd (let z = back-some (read_body p.message.body) in omega (arith, z, e))
 
 -- ---- seats
 
@@ -88,7 +89,7 @@ Lets ref (Some p) = p.message.my_ref ≡ ref
 
 -- what was held is let go, and the letter is more to do
 pub record IsSent (l : Letter) (held : Option Parcel) (post : Post) (x : Post × ℕ) : Type 0 where
-  pub work : post_work x.0 + held_work held ≤ post_work post + work_ahead l.body
+  pub work : post_work x.0 + held_work held ≤ post_work post + work_ahead (read_body l.body)
   pub next : x.0.next_ref ≡ post.next_ref + 1
 
 more-queued : (queue : List Parcel) (p : Parcel) → queue_work (queue ++ p ∷ []) ≡ queue_work queue + parcel_work p
@@ -98,7 +99,7 @@ posted-is : (l : Letter) (there : Heap × ℕ) (post : Post) (held : Option Parc
     Lets l.your_ref held →
     IsSent l held post (if answers_held l.your_ref held then put_down l.from (queued_in l there post) else queued_in l there post, post.next_ref)
 posted-is l there post None e lets = record {
-  work = let y = more-queued post.queued (parcel_of l post.next_ref there.1) in let z = queued-most l.code l.body in omega (arith, y, z);
+  work = let y = more-queued post.queued (parcel_of l post.next_ref there.1) in let z = queued-most l.code (read_body l.body) in omega (arith, y, z);
   next = refl;
 }
 posted-is l there post (Some p) e lets =
@@ -106,7 +107,7 @@ posted-is l there post (Some p) e lets =
     rw same (record {
       work =
           let y = more-queued post.queued (parcel_of l post.next_ref there.1) in
-          let z = queued-most l.code l.body in
+          let z = queued-most l.code (read_body l.body) in
           let w = let-go l.from (Some p) post.seats e in
           omega (arith, y, z, w);
       next = refl;
@@ -181,7 +182,7 @@ took-is h m queue post is none = by_code m.code refl
     free x same less next =
         let bare : held_by h x.seats ≡ None = ap (held_by h) same ∙ none in
         let zero : held_work (held_by h x.seats) ≡ 0 = ap held_work bare in
-        let some = queued-some m.code m.message.body in
+        let some = queued-some m.code (read_body m.message.body) in
         let seats : seats_work x.seats ≡ seats_work post.seats = ap seats_work same in
         let rest : queue_work x.queued ≡ queue_work queue = ap queue_work less in
         record {
@@ -197,13 +198,13 @@ took-is h m queue post is none = by_code m.code refl
         let seats : List Seat = with_held h (Some m) post.seats in
         let w = put-held h (Some m) post.seats in
         let zero : held_work (held_by h post.seats) ≡ 0 = ap held_work none in
-        let recorded : parcel_work m ≡ work_ahead m.message.body = ap (λ c. work_queued c m.message.body) same in
-        let y = back-less m.message.body in
+        let recorded : parcel_work m ≡ work_ahead (read_body m.message.body) = ap (λ c. work_queued c (read_body m.message.body)) same in
+        let y = back-less (read_body m.message.body) in
         record {
           work = omega (arith, is, w, zero);
           room = elim (held-got h m post.seats none) [
             | inl e ↦ let z : held_work (held_by h seats) ≡ 0 = ap held_work e in omega (arith, z, recorded, y)
-            | inr e ↦ let z : held_work (held_by h seats) ≡ work_back m.message.body + 1 = ap held_work e in omega (arith, z, recorded, y)
+            | inr e ↦ let z : held_work (held_by h seats) ≡ work_back (read_body m.message.body) + 1 = ap held_work e in omega (arith, z, recorded, y)
           ];
           lets = elim (held-got h m post.seats none) [
             | inl e ↦ subst (Lets m.message.my_ref) (sym e) tt

@@ -4,6 +4,7 @@ use Rattle.rh_laws.proofs.Common.{Letter, Incoming, Outgoing, Taking, total, Par
 use Rattle.rh_laws.proofs.Common.{send_letter, with_post, with_sending, with_slot, with_taking, with_task, taking_ended, OnGrant, granted, granted-with, Has}
 use Rattle.rh_laws.proofs.Common.{Offers}
 use Rattle.rh_defs.specs.declared.transfer.Outgoing.TheVariants as outgoing
+use Rattle.rh_defs.specs.AnyMessage.{read_body}
 use Rattle.rh_safety.proofs.SeenTasks.{change_other}
 use Rattle.rh_safety.proofs.View.{field}
 use Rattle.rh_laws.specs.Progress.{held_work, post_work, source_work, work_ahead}
@@ -143,7 +144,7 @@ module _ (o : Offers) where
   -- a letter of the task that answers what it holds
   pub letter-here : {h : ℕ} {outs : List Outgoing} {c w n : ℕ} {held : Option Parcel} {live : List (List ℕ)} (l : Letter) → l.from ≡ h → Lets l.your_ref held →
       (d : Desk) → Here h outs c w n held live d →
-      OnGrant (λ e. (k : Option Parcel) × Here h outs (c + held_work held) (w + work_ahead l.body) (n + 1) k live e) (send_letter l d)
+      OnGrant (λ e. (k : Option Parcel) × Here h outs (c + held_work held) (w + work_ahead (read_body l.body)) (n + 1) k live e) (send_letter l d)
   unfolding send_letter
   letter-here {h} {outs} {c} {w} {n} {held} {live} l from lets d is =
       granted-with _ (sent-is (free_pages d) l held d.post (ap (λ k. held_by k d.post.seats) from ∙ is.holds) lets) λ x z.
@@ -153,8 +154,8 @@ module _ (o : Offers) where
             (with_post x.0 d) (posted x.0 z.work z.next),
       )
     where
-      posted : (p : Post) → post_work p + held_work held ≤ post_work d.post + work_ahead l.body → p.next_ref ≡ d.post.next_ref + 1 →
-          Here h outs (c + held_work held) (w + work_ahead l.body) (n + 1) (held_by h p.seats) live (with_post p d)
+      posted : (p : Post) → post_work p + held_work held ≤ post_work d.post + work_ahead (read_body l.body) → p.next_ref ≡ d.post.next_ref + 1 →
+          Here h outs (c + held_work held) (w + work_ahead (read_body l.body)) (n + 1) (held_by h p.seats) live (with_post p d)
       posted p less next = record {
         work = let y = is.work in omega (arith, y, less);
         sends = is.sends;

@@ -2,33 +2,40 @@
 use Rattle.rh_laws.proofs.Common.{◌≡◌, ℕ, ◌+◌, ◌≤◌, Bool, true, false, List, [], ◌∷◌, Option, Some, None, refl, sym, ap, subst, ◌∙◌, ◌⊎◌, inl, inr, arith}
 use Rattle.rh_laws.proofs.Common.{◌==◌, if◌then◌else◌, nat_eq, Ok, Err, option_map, eq-eqb, Outgoing, Granted, ◌>>=◌, or_else, Split, total, Flex, Parcel}
 use Rattle.rh_laws.proofs.Common.{Post, held_by, post_poll, out_id, Desk, Task, named, with_delivered, Answer, IsDesk, handled, poll, poll_taken, step, Edits}
-use Rattle.rh_laws.proofs.Common.{Has, Offers, Ascend, is_equal, Good, fits, the_task, field_is, blocks_of, task_of, view}
+use Rattle.rh_laws.proofs.Common.{Has, Offers, Ascend, either, is_equal, fits, the_task, field_is, blocks_of, task_of, view}
 use Rattle.rh_defs.specs.declared.command.Command.TheVariants as command
 use Rattle.rh_defs.specs.declared.reply.Reply.TheVariants as reply
 use Rattle.rh_defs.specs.declared.transfer.Outgoing.TheVariants as outgoing
+use Rattle.rh_defs.specs.declared.reply.Outcome.TheVariants as outcome
+use Rattle.rh_defs.specs.AnyMessage.{as_read}
+use Rattle.rh_defs.specs.RawTasks.{is_raw}
+use Rattle.rh_defs.specs.Transfer.{received}
+use Rattle.rh_safety.specs.RawIds.{Gave}
+use Rattle.rh_safety.proofs.Keeps.{Stands}
 use Rattle.rh_safety.proofs.SeenLaws.{block_is}
 use Rattle.rh_safety.proofs.SeenTasks.{Distinct, NotIn}
 use Rattle.rh_laws.specs.Progress.{events, out_work, source_work, task_work, work, work_queued}
 use Rattle.rh_laws.proofs.WorkPosts.{IsIdle, OfTaken, polled-is}
 use Rattle.rh_laws.proofs.WorkTasks.{Here, names_of, offered_work, outs_work, tasks_work, work_offered}
-use Rattle.rh_laws.proofs.WorkPolls.{Falls, Owns, handled-falls}
+use Rattle.rh_laws.proofs.WorkPolls.{Falls, Owns, handled-falls, plain-falls}
 
 -- ---- by what was offered
 
 -- the sources are what was offered
-pub good-owns : {o : Offers} {e : Edits} (d : Desk) (t : Task) → task_of t.handle d.tasks ≡ Some t → Good o e (view d) → Owns o t
-good-owns {o} {e} d t is g =
+pub good-owns : {o : Offers} {e : Edits} {R : Gave} (d : Desk) (t : Task) → task_of t.handle d.tasks ≡ Some t → Stands o e R (view d) → Owns o t
+good-owns d t is g =
     let h : ℕ = t.handle in
     let sends : (view d).sending h ≡ t.sending = field_is (λ y. y.sending) [] h d.tasks t is in
     let blocks : (view d).block h ≡ blocks_of t.slot = field_is (λ y. blocks_of y.slot) (λ a. None) h d.tasks t is in
     record {
-      ids = subst (Ascend out_id) sends (g.inv.order.outs h);
+      ids = subst (Ascend out_id) sends (g.good.inv.order.outs h);
       sources = λ x has s found.
-          let w = g.inv.outs.source h x (subst (Has (outgoing.Open x)) (sym sends) has) in
+          let there_out = subst (Has (outgoing.Open x)) (sym sends) has in
+          let w = g.good.inv.outs.source h x there_out in
           let there : blocks_of t.slot x.anchor ≡ Some w.all = ap (λ (f : ℕ → Option (List ℕ)). f x.anchor) (sym blocks) ∙ w.there in
           let here : blocks_of t.slot x.anchor ≡ Some s.here.bytes =
           block_is t.slot x.anchor ∙ ap (option_map (λ (b : Split Flex). b.here.bytes)) found in
-          w.offered ∙ (sym there ∙ here);
+          sym (g.same x.id (g.raws.outs h (outgoing.Open x) there_out)) ∙ w.offered ∙ (sym there ∙ here);
     }
 
 -- two sizes that are the same of each member
@@ -56,7 +63,7 @@ has-task (y ∷ ts) t apart (inr has) = go (y.handle == t.handle) refl (has-task
     go false e rest = rest
 
 -- the work at a desk, by its sources and by what was offered
-pub work-is : {o : Offers} {e : Edits} (d : Desk) → IsDesk d → Good o e (view d) → work d ≡ work_offered o d
+pub work-is : {o : Offers} {e : Edits} {R : Gave} (d : Desk) → IsDesk d → Stands o e R (view d) → work d ≡ work_offered o d
 work-is {o} d is g =
     let same : total task_work d.tasks ≡ tasks_work o d.tasks = total-same task_work (λ (t : Task). outs_work o t.sending) d.tasks (λ t has.
     total-same (out_work t.slot) (offered_work o) t.sending (out-same t (has-task d.tasks t (fits d is).handles has))) in
@@ -66,9 +73,11 @@ work-is {o} d is g =
     out-same t at (outgoing.Open x) has =
         let sends : (view d).sending t.handle ≡ t.sending = field_is (λ y. y.sending) [] t.handle d.tasks t at in
         let blocks : (view d).block t.handle ≡ blocks_of t.slot = field_is (λ y. blocks_of y.slot) (λ a. None) t.handle d.tasks t at in
-        let w = g.inv.outs.source t.handle x (subst (Has (outgoing.Open x)) (sym sends) has) in
+        let there_out = subst (Has (outgoing.Open x)) (sym sends) has in
+        let w = g.good.inv.outs.source t.handle x there_out in
         let there : blocks_of t.slot x.anchor ≡ Some w.all = ap (λ (f : ℕ → Option (List ℕ)). f x.anchor) (sym blocks) ∙ w.there in
-        ap (λ v. source_work v x.count) (sym (block_is t.slot x.anchor) ∙ there ∙ sym w.offered)
+        ap (λ v. source_work v x.count) (sym (block_is t.slot x.anchor) ∙ there ∙ sym w.offered ∙
+        g.same x.id (g.raws.outs t.handle (outgoing.Open x) there_out))
     out-same t at (outgoing.Done id k) has = refl
     out-same t at (outgoing.Failed id k) has = refl
 
@@ -90,7 +99,7 @@ pub record Idle (d : Desk) (name : List ℕ) (a : Answer) : Type 0 where
 abbrev pub Turn : Offers → Desk → List ℕ → Answer → Type 0
 Turn o d name a = Busy o d a ⊎ Idle d name a
 
-module _ {o : Offers} {e : Edits} (d : Desk) (name : List ℕ) (is : IsDesk d) (g : Good o e (view d)) where
+module _ {o : Offers} {e : Edits} {R : Gave} (d : Desk) (name : List ℕ) (is : IsDesk d) (g : Stands o e R (view d)) where
   module _ (t : Task) (found : named name d ≡ Ok t) where
     abbrev polled : Post × Option Parcel
     polled = post_poll t.handle d.post
@@ -122,9 +131,14 @@ module _ {o : Offers} {e : Edits} (d : Desk) (name : List ℕ) (is : IsDesk d) (
           next = w.next;
           names = refl;
         } in
-        let z : Falls o t (good-owns d t at g) (work_offered o after) d.post.next_ref held (names_of d.tasks)
-        (work_queued m.code m.message.body) (handled after t m m.code) =
-        handled-falls o t (good-owns d t at g) (work_offered o after) d.post.next_ref held (names_of d.tasks) m after on w.lets m.code w.back w.room in
+        let own = good-owns d t at g in
+        let read = as_read m in
+        let z : Falls o t own (work_offered o after) d.post.next_ref held (names_of d.tasks) (work_queued m.code read.message.body)
+        (received after t read) =
+        either (Falls o t own (work_offered o after) d.post.next_ref held (names_of d.tasks) (work_queued m.code read.message.body))
+        (is_raw t.manner) (after, outcome.Taken) (handled after t read m.code)
+        (λ its. plain-falls o t own (work_offered o after) d.post.next_ref held (names_of d.tasks) w.room after outcome.Taken on)
+        (λ plays. handled-falls o t own (work_offered o after) d.post.next_ref held (names_of d.tasks) read after on w.lets m.code w.back w.room) in
         let falls = z.work in
         let taken = w.work in
         let next = z.next in

@@ -1,19 +1,21 @@
 -- Whom each transfer was offered to, and by whom. Read Offered and Held of rh_safety first.
 -- d is a desk, a a map from ids to the two tasks, k an anchor, h, s and r are handles, of a sender and a receiver where
 -- s and r are; id and ref are refs of a DataSave. r is a reply where one command is followed (*addresses_next*).
-use Rattle.std.specs.Prelude.{◌≡◌, ℕ, List, [], ◌∷◌, find, Option, Some, None}
+use Rattle.std.specs.Prelude.{◌≡◌, ℕ, List, [], ◌∷◌, find, unwrap_or, Option, Some, None}
 use Rattle.std.specs.List.{Contains}
 use Rattle.rh_defs.specs.declared.message.Body.{Body}
 use Rattle.rh_defs.specs.declared.message.Body.TheVariants as body
 use Rattle.rh_defs.specs.declared.message.Letter.{Letter}
 use Rattle.rh_defs.specs.declared.command.Command.{Command}
 use Rattle.rh_defs.specs.declared.command.Command.TheVariants as command
+use Rattle.rh_defs.specs.declared.raw_command.RawCommand.TheVariants as raw
 use Rattle.rh_defs.specs.declared.reply.Reply.{Reply}
 use Rattle.rh_defs.specs.declared.reply.Reply.TheVariants as reply
 use Rattle.rh_defs.specs.declared.transfer.Outgoing.{Outgoing}
 use Rattle.rh_defs.specs.declared.transfer.Outgoing.TheVariants as outgoing
 use Rattle.rh_defs.specs.declared.transfer.Incoming.{Incoming}
 use Rattle.rh_defs.specs.declared.transfer.Incoming.TheVariants as incoming
+use Rattle.rh_defs.specs.AnyMessage.{body_of, read_body}
 use Rattle.rh_defs.specs.Files.{FileList}
 use Rattle.rh_defs.specs.Records.{in_id, out_id}
 use Rattle.rh_defs.specs.Desk.{Desk, Task, has_name, task_at}
@@ -22,7 +24,7 @@ use Rattle.rh_defs.specs.Runs.{after, start_with}
 use Rattle.rh_safety.specs.Held.{held}
 use Rattle.rh_safety.specs.Offered.{at_place, last_of}
 
--- ---- addressed: by whom and to whom the saves of a run offered
+-- ---- addressed: by whom and to whom the DataSaves of a run were sent
 
 -- the two tasks of a transfer, by their handles
 pub record Parties : Type 0 where
@@ -44,10 +46,24 @@ saved_to a d name to (reply.Sent ref) =
     at_place a ref (parties_of (find (has_name name) d.tasks) (find (has_name to) d.tasks))
 saved_to a d name to _ = a
 
+-- a message that is read as a DataSave is, under its ref, of these tasks
+abbrev pub addressed_as : Addresses → ℕ → Option Parties → Body → Addresses
+addressed_as a ref parties (body.DataSave f) = at_place a ref parties
+addressed_as a ref parties _ = a
+
 -- a DataSave that is sent again is, under its own ref, of the tasks of the old one
 abbrev pub addressed_again : Addresses → ℕ → ℕ → Body → Addresses
-addressed_again a ref old (body.DataSave f) = at_place a ref (a old)
-addressed_again a ref old _ = a
+addressed_again a ref old b = addressed_as a ref (a old) (read_body b)
+
+-- a task with code of its own, and the handle that it sends to
+abbrev pub parties_to : Option Task → ℕ → Option Parties
+parties_to None h = None
+parties_to (Some s) h = Some (record { sender = s.handle; receiver = h })
+
+-- what such a task sends is of it, and of the task with the handle
+abbrev pub sent_to : Addresses → Desk → List ℕ → ℕ → Body → Reply → Addresses
+sent_to a d name h b (reply.Sent ref) = addressed_as a ref (parties_to (find (has_name name) d.tasks) h) (read_body b)
+sent_to a d name h b _ = a
 
 -- the letter that a task sent last, where it sent one, is sent again: a DataSave is of the tasks of the old one
 abbrev pub addressed_last : Addresses → ℕ → Option (Letter × ℕ) → Addresses
@@ -63,6 +79,8 @@ repeated_to a d name _ = a
 abbrev pub addresses_next : Addresses → Desk → Command → Reply → Addresses
 addresses_next a d (command.Save name k to leaf) r = saved_to a d name to r
 addresses_next a d (command.Repeat name) r = repeated_to a d name r
+addresses_next a d (command.Raw (raw.Send name recorded h ref act bytes)) r =
+    sent_to a d name h (body_of act (unwrap_or bytes [])) r
 addresses_next a d _ r = a
 
 -- the tasks of each id after commands

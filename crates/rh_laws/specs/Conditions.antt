@@ -2,12 +2,15 @@
 -- Read RefusalOrder and RefusalRooms first. d is the desk, t a task, k an anchor or the number of an area, n and m are
 -- sizes. No step of Commands is named here: each row tells a refusal, and a test of the desk. `-` of naturals stops at
 -- 0: an address below a heap becomes 0 there, where no block is.
-use Rattle.std.specs.Prelude.{◌≡◌, ℕ, ℤ, ◌+◌, ◌-◌, Bool, true, false, not, ◌&&◌, ◌||◌, nat_lt, nat_le, ◌==◌, List, [], ◌∷◌, length, filter, find, Option, Some, None, is_some, is_none}
+use Rattle.std.specs.Prelude.{◌≡◌, ℕ, ℤ, ◌+◌, ◌-◌, Bool, true, false, not, ◌&&◌, ◌||◌, nat_lt, nat_le, ◌==◌, List, [], ◌∷◌, ◌++◌, length, filter, find, unwrap_or, Option, Some, None, is_some, is_none}
 use Rattle.std.specs.List.{list_any}
 use Rattle.rh_defs.specs.Forms.{last_made}
-use Rattle.rh_defs.specs.declared.refusal.Refusal.TheVariants.{NameInUse, NoName, TooManyTasks, NoHandles, NoFile, NoBlock, AnchorInUse, NotABlock, NotYours, Busy, NotOpen, NothingSent, BadRange, BadSize, ExcessiveShrink, NoTask, NoRefs, QueueFull, NoBudge, NoRoom, NoArea, TooManyAreas, NoNumbers, TooBig}
+use Rattle.rh_defs.specs.declared.refusal.Refusal.{Refusal}
+use Rattle.rh_defs.specs.declared.refusal.Refusal.TheVariants.{NameInUse, NoName, TooManyTasks, NoHandles, NoFile, NoBlock, AnchorInUse, NotABlock, NotYours, Busy, NotOpen, NothingSent, BadRange, BadSize, ExcessiveShrink, NoTask, NoRefs, QueueFull, NoBudge, NoRoom, NoArea, TooManyAreas, NoNumbers, TooBig, WrongManner, BadRef}
 use Rattle.rh_defs.specs.declared.command.Command.{Command}
 use Rattle.rh_defs.specs.declared.command.Command.TheVariants as command
+use Rattle.rh_defs.specs.declared.raw_command.RawCommand.{RawCommand}
+use Rattle.rh_defs.specs.declared.raw_command.RawCommand.TheVariants as raw
 use Rattle.rh_defs.specs.declared.question.Question.{Question}
 use Rattle.rh_defs.specs.declared.question.Question.TheVariants as question
 use Rattle.rh_defs.specs.declared.message.Letter.{Letter}
@@ -18,10 +21,16 @@ use Rattle.rh_defs.specs.declared.transfer.Incoming.TheVariants as incoming
 use Rattle.rh_defs.specs.Pieces.{Split, moved}
 use Rattle.rh_defs.specs.Files.{file_bytes}
 use Rattle.rh_defs.specs.Heap.{Segment, block_at, bytes_of}
-use Rattle.rh_defs.specs.Slot.{Flex, block_of, flex_weight, heap_block_at, is_used, slot_length, taken_out}
+use Rattle.rh_defs.specs.Slot.{Flex, block_of, flex_weight, heap_block_at, holds, is_used, slot_length, taken_out}
+use Rattle.rh_defs.specs.AnyMessage.{body_of}
+use Rattle.rh_defs.specs.Letters.{scrap_name}
+use Rattle.rh_defs.specs.Places.{overlap}
+use Rattle.rh_defs.specs.OutgoingEvents.{scrap_shortage, wider}
+use Rattle.rh_defs.specs.RawCommands.{file_held}
+use Rattle.rh_defs.specs.RawTasks.{is_open_to, is_raw}
 use Rattle.rh_defs.specs.Records.{is_meant, is_open, most_records}
-use Rattle.rh_defs.specs.Post.{live_count, most_messages, post_is_message}
-use Rattle.rh_defs.specs.Desk.{Desk, Made, Task, free_pages, has_name, is_busy_block, is_busy_buffer, most_tasks, next_ref, task_at, module_start, most_made}
+use Rattle.rh_defs.specs.Post.{held_by, live_count, most_messages, post_is_message}
+use Rattle.rh_defs.specs.Desk.{Desk, Made, Scrap, Task, free_pages, has_name, is_busy_block, is_busy_buffer, most_tasks, next_ref, task_at, module_start, most_made}
 use Rattle.rh_defs.specs.Commands.{step}
 use Rattle.rh_laws.specs.RefusalOrder.{RefusalRow, are_in_order, first_refusal, refusal_in}
 use Rattle.rh_laws.specs.RefusalRooms.{file_message_size, gained_pages, kept_length, lacks, area_length_of, lost_bytes, made_area, message_size, outgrows, short_for, short_of}
@@ -134,15 +143,78 @@ is_coming_one id (incoming.Fetching f) = is_meant id f.id
 is_coming_one id (incoming.Asking q) = is_meant id q.id
 is_coming_one id _ = false
 
+-- ---- tasks with code of their own
+
+-- the task has no code of its own, or has
+abbrev pub not_raw : List ℕ → Desk → RefusalRow
+not_raw name d = (WrongManner, of_task name d λ t. not (is_raw t.manner))
+
+abbrev pub too_raw : List ℕ → Desk → RefusalRow
+too_raw name d = (WrongManner, of_task name d λ t. is_raw t.manner)
+
+-- the ref was never given
+abbrev pub bad_ref : ℕ → Desk → RefusalRow
+bad_ref ref d = (BadRef, nat_le (next_ref d) ref)
+
+-- n bytes at an address don't lie whole in one block of the task
+abbrev pub not_held : ℕ → ℕ → List ℕ → Desk → RefusalRow
+not_held x n name d = (BadRange, of_task name d λ t. not (holds x n t.slot))
+
+-- n bytes can't be moved from x to y: they aren't the task's, they are in their own way, or the live task at the other
+-- end didn't open their place
+abbrev pub is_shut_to : Task → ℕ → ℕ → ℕ → ℕ → Desk → Bool
+is_shut_to t x h y n d =
+    not (holds x n t.slot) || (t.handle == h && overlap x n y n)
+    || there_is (λ (r : Task). not (is_open_to t.handle (held_by t.handle d.post.seats) r y n)) (task_at h d)
+
+-- the scrap file, where the task holds its DataLoad
+abbrev pub own_file : Task → Desk → Option Scrap
+own_file t d = file_held (held_by t.handle d.post.seats) d.scrap
+
+-- a scrap file of n bytes and its DataLoad take more pages than are free: area 5 grows first
+abbrev pub lacks_file_room : ℕ → Desk → Bool
+lacks_file_room n d =
+    nat_lt (free_pages d) (scrap_shortage n d)
+    || lacks_module_room (file_message_size (length scrap_name)) (wider (scrap_shortage n d) d)
+
 -- ---- the table
 
 -- a question's conditions
 abbrev pub asked_rows : Desk → Question → List RefusalRow
 asked_rows d (question.Show name k) = no_name name d ∷ no_block k name d ∷ []
+asked_rows d (question.Read name x n) = no_name name d ∷ not_held x n name d ∷ []
 asked_rows d (question.Blocks name) = no_name name d ∷ []
 asked_rows d (question.Heap name) = no_name name d ∷ []
 asked_rows d (question.Status name) = no_name name d ∷ []
 asked_rows d question.Areas = []
+
+-- those of a command of a task with code of its own
+abbrev pub raw_rows : Desk → RawCommand → List RefusalRow
+raw_rows d (raw.Send name recorded h ref a bytes) =
+    no_name name d
+    ∷ send_rows (is_none (task_at h d)) (lacks_module_room (message_size (body_of a (unwrap_or bytes []))) d) d
+    ++ not_raw name d ∷ bad_ref ref d ∷ []
+raw_rows d (raw.Write name x bytes) = no_name name d ∷ not_held x (length bytes) name d ∷ not_raw name d ∷ []
+raw_rows d (raw.Transfer name x h y n) =
+    no_name name d
+    ∷ (BadRange, of_task name d λ t. is_shut_to t x h y n d)
+    ∷ (NoTask, is_none (task_at h d))
+    ∷ not_raw name d
+    ∷ []
+raw_rows d (raw.Ack name) = no_name name d ∷ not_raw name d ∷ []
+raw_rows d (raw.Spool name k h ref) =
+    no_name name d
+    ∷ no_block k name d
+    ∷ (Busy, is_some d.scrap)
+    ∷ send_rows (is_none (task_at h d)) (of_block k name d λ t n. lacks_file_room n d) d
+    ++ not_raw name d ∷ bad_ref ref d ∷ []
+raw_rows d (raw.Scrap name k) =
+    no_name name d
+    ∷ (NoFile, of_task name d λ t. is_none (own_file t d))
+    ∷ (AnchorInUse, of_task name d λ t. is_used k t.slot)
+    ∷ (NoRoom, of_task name d λ t. there_is (λ (file : Scrap). lacks_room_with (length file.bytes) t d) (own_file t d))
+    ∷ not_raw name d
+    ∷ []
 
 -- a command's conditions
 abbrev pub conditions : Desk → Command → List RefusalRow
@@ -205,7 +277,7 @@ conditions d (command.Save name k to leaf) =
     no_name name d
     ∷ no_block k name d
     ∷ (Busy, of_task name d λ t. is_busy_block k t || nat_le most_records (length (filter is_open t.sending)))
-    ∷ send_rows (is_none (task_of to d)) (lacks_module_room (file_message_size (length leaf)) d) d
+    ∷ send_rows (is_none (task_of to d)) (lacks_module_room (file_message_size (length leaf)) d) d ++ too_raw name d ∷ []
 conditions d (command.Poll name) = no_name name d ∷ []
 conditions d (command.CancelIn name id) =
     no_name name d ∷ (NotOpen, of_task name d λ t. not (list_any (is_coming_one id) t.taking)) ∷ []
@@ -234,12 +306,17 @@ conditions d (command.RmaResize address delta) =
     ∷ (NoRoom, there_is (λ b. lacks (short_for (bytes_with delta b) b d.post.heap) d) (module_block address d))
     ∷ []
 conditions d (command.Ask q) = asked_rows d q
+conditions d (command.Raw c) = raw_rows d c
 
 -- ---- the law
 
 -- the conditions of each command stand in the one order, each refusal at most once
 abbrev pub StandInOrder : Type 0
 StandInOrder = (d : Desk) (c : Command) → are_in_order 0 (conditions d c) ≡ true
+
+-- a command that is refused leaves the desk as it was, whatever the desk
+abbrev pub ChangesNothing : Type 0
+ChangesNothing = (d : Desk) (c : Command) (r : Refusal) → refusal_in (step d c).1 ≡ Some r → (step d c).0 ≡ d
 
 -- each command on the desk is refused by the first of its conditions that holds, and granted where none holds
 abbrev pub AnswersByTable : Desk → Type 0

@@ -9,8 +9,12 @@ pub mod Frame
 pub mod ScrapTurns
 pub mod Progress
 pub mod Renaming
+pub mod Cancels
 pub mod Claimed
 pub mod Rest
 pub mod LiveEnds
 pub mod SendersDone
 pub mod MayShow
+pub mod Partners
+pub mod ScrapSteps
+pub mod Moved

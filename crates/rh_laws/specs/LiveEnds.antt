@@ -12,11 +12,11 @@ use Rattle.rh_defs.specs.declared.transfer.Incoming.{Incoming}
 use Rattle.rh_defs.specs.declared.transfer.Incoming.TheVariants as incoming
 use Rattle.rh_defs.specs.declared.transfer.Outgoing.{Outgoing}
 use Rattle.rh_defs.specs.declared.transfer.Outgoing.TheVariants as outgoing
-use Rattle.rh_defs.specs.Laws.{Always}
 use Rattle.rh_defs.specs.Messages.{Parcel}
 use Rattle.rh_defs.specs.Post.{Post, held_by}
 use Rattle.rh_defs.specs.Desk.{Desk, Scrap, Task, task_at}
 use Rattle.rh_defs.specs.Transfer.{answers_none}
+use Rattle.rh_safety.specs.Played.{AfterPlayed}
 use Rattle.rh_laws.specs.Rest.{IsOffered}
 
 -- ---- bodies
@@ -115,6 +115,6 @@ pub record HasLiveEnds (d : Desk) : Type 0 where
   pub comes : (h : ℕ) (t : Task) (w : Incoming) → task_at h d ≡ Some t → Contains t.taking w → ComesAlive d h t w
   pub goes : (h : ℕ) (t : Task) (x : Outgoing) → task_at h d ≡ Some t → Contains t.sending x → GoesAlive d h t x
 
--- so it is of each desk that a run reaches
+-- so it is of each desk that a run reaches in which no command starts a task with code of its own
 abbrev pub AlwaysHasLiveEnds : Type 0
-AlwaysHasLiveEnds = Always HasLiveEnds
+AlwaysHasLiveEnds = AfterPlayed HasLiveEnds

@@ -1,16 +1,19 @@
--- Whose the bytes are that a task shows: it put or loaded them, or they stood in a block when that was offered to it.
--- Read Offered of rh_safety first. may is a map from handles to bytes, d a desk, k an anchor, h a handle, t a task, r a
--- reply. *may_show_next* follows one command by its reply, *may_show_from* all commands.
+-- Whose the bytes are that a task shows: it put, wrote or loaded them, or they stood in a block when that was offered or
+-- spooled to it, or where they were moved from when they were moved to it. Read Offered of rh_safety first. may is a map
+-- from handles to bytes, d a desk, k an anchor, h a handle, t a task, x an address, n a number of bytes, r a reply. *may_show_next* follows one command by its reply, *may_show_from* all commands.
 use Rattle.std.specs.Prelude.{[], find, List, map, Ok, Option, Some, true, ℕ, ◌++◌, ◌∷◌, ◌≡◌, ◌≤◌}
 use Rattle.std.specs.List.{AllByRecursion, Contains}
+use Rattle.std.specs.Option.{option_map}
 use Rattle.rh_defs.specs.declared.command.Command.{Command}
 use Rattle.rh_defs.specs.declared.command.Command.TheVariants as command
+use Rattle.rh_defs.specs.declared.raw_command.RawCommand.TheVariants as raw
 use Rattle.rh_defs.specs.declared.question.Numbers.{Numbers}
 use Rattle.rh_defs.specs.declared.question.Question.TheVariants as question
 use Rattle.rh_defs.specs.declared.reply.Reply.{Reply}
 use Rattle.rh_defs.specs.declared.reply.Reply.TheVariants as reply
 use Rattle.rh_defs.specs.Heap.{bytes_of, Segment}
 use Rattle.rh_defs.specs.Slot.{Flex}
+use Rattle.rh_defs.specs.Places.{bytes_held}
 use Rattle.rh_defs.specs.Files.{file_bytes, FileList}
 use Rattle.rh_defs.specs.Range.{all_in_range}
 use Rattle.rh_defs.specs.Desk.{Desk, has_name, Scrap, Task, task_at}
@@ -34,7 +37,7 @@ abbrev pub shows_too : MayShow → Option Task → Option (List ℕ) → MayShow
 shows_too may (Some t) (Some bytes) = at_place may t.handle (may t.handle ++ bytes)
 shows_too may _ _ = may
 
--- a put that was done: its task may show its bytes
+-- a put or a write that was done: its task may show its bytes
 abbrev pub put_shows : MayShow → Desk → List ℕ → List ℕ → Reply → MayShow
 put_shows may d name bytes reply.Done = shows_too may (find (has_name name) d.tasks) (Some bytes)
 put_shows may d name bytes _ = may
@@ -51,11 +54,29 @@ save_shows may d name k to (reply.Sent ref) =
     shows_too may (find (has_name to) d.tasks) (source_of (find (has_name name) d.tasks) k)
 save_shows may d name k to _ = may
 
+-- n bytes at an address of a task's slot
+abbrev pub range_of : Option Task → ℕ → ℕ → Option (List ℕ)
+range_of task x n = option_map (λ (t : Task). bytes_held x n t.slot) task
+
+-- a transfer that was done: the task that it is to may show the bytes that it is of
+abbrev pub transfer_shows : MayShow → Desk → List ℕ → ℕ → ℕ → ℕ → Reply → MayShow
+transfer_shows may d name x h n reply.Done =
+    shows_too may (task_at h d) (range_of (find (has_name name) d.tasks) x n)
+transfer_shows may d name x h n _ = may
+
+-- a spool that was accepted: the task that it is to may show the bytes that the block has then
+abbrev pub spool_shows : MayShow → Desk → List ℕ → ℕ → ℕ → Reply → MayShow
+spool_shows may d name k h (reply.Sent ref) = shows_too may (task_at h d) (source_of (find (has_name name) d.tasks) k)
+spool_shows may d name k h _ = may
+
 -- what each task may show after one more command, by the command's reply
 abbrev pub may_show_next : MayShow → Desk → Command → Reply → MayShow
 may_show_next may d (command.Put name k offset bytes) r = put_shows may d name bytes r
 may_show_next may d (command.Load name k file) r = load_shows may d name file r
 may_show_next may d (command.Save name k to leaf) r = save_shows may d name k to r
+may_show_next may d (command.Raw (raw.Write name x bytes)) r = put_shows may d name bytes r
+may_show_next may d (command.Raw (raw.Transfer name x h y n)) r = transfer_shows may d name x h n r
+may_show_next may d (command.Raw (raw.Spool name k h ref)) r = spool_shows may d name k h r
 may_show_next may d _ r = may
 
 -- what each task may show after commands

@@ -7,12 +7,18 @@ use Rattle.hex.specs.Hex.{encode_lower}
 use Rattle.rh_defs.specs.Bytes.{space}
 use Rattle.rh_defs.specs.declared.command.Command.{Command}
 use Rattle.rh_defs.specs.Forms.{last_ref}
-use Rattle.rh_defs.specs.Grammar.{Form, Name, Leaf, Number, Ref, Delta, Address, Bytes, Choice, Maybe, Value, Values, Spelling, spelled_by, spelling}
+use Rattle.rh_defs.specs.Grammar.{Form, Name, Leaf, Number, Ref, Delta, Address, Bytes, Data, Choice, Choices, Third, First, Middle, Last, Maybe, Value, Values, Spelling, spelled_by, spelling}
 use Rattle.rh_defs.specs.Line.{longest_line, line_means}
 use Rattle.rh_defs.specs.Range.{in_range}
 use Rattle.rh_defs.specs.Text.{Words, address}
 
 -- ---- the words of a command
+
+-- one of three words
+abbrev pub third_word : List ℕ → List ℕ → List ℕ → Third → List ℕ
+third_word first second third First = first
+third_word first second third Middle = second
+third_word first second third Last = third
 
 -- what is printed for a value of a form
 abbrev pub form_text : (form : Form) → Value form → Words
@@ -23,6 +29,8 @@ form_text Ref ref = decimal ref ∷ []
 form_text Delta amount = signed_decimal amount ∷ []
 form_text Address place = address place ∷ []
 form_text Bytes bytes = encode_lower bytes ∷ []
+form_text Data bytes = encode_lower bytes ∷ []
+form_text (Choices first second third) which = third_word first second third which ∷ []
 form_text (Choice first second) is_first = (if is_first then first else second) ∷ []
 form_text (Maybe form) None = []
 form_text (Maybe form) (Some value) = form_text form value
@@ -55,6 +63,7 @@ abbrev pub is_sized : (form : Form) → Value form → Bool
 is_sized Ref ref = nat_le ref last_ref
 is_sized Address place = is_word place
 is_sized Bytes bytes = list_all (λ b. nat_lt b 256) bytes
+is_sized Data bytes = list_all (λ b. nat_lt b 256) bytes
 is_sized (Maybe form) (Some value) = is_sized form value
 is_sized form value = true
 

@@ -19,6 +19,7 @@ use Rattle.rh_defs.specs.Range.{all_in_range}
 use Rattle.rh_defs.specs.Laws.{Always}
 use Rattle.rh_defs.specs.Slot.{Slot}
 use Rattle.rh_defs.specs.Messages.{Parcel}
+use Rattle.rh_defs.specs.AnyMessage.{read_body}
 use Rattle.rh_defs.specs.Post.{Post, Seat}
 use Rattle.rh_defs.specs.Desk.{Desk, Task, next_ref}
 use Rattle.rh_defs.specs.Runs.{after, replies}
@@ -39,6 +40,7 @@ work_ahead (body.DataLoad file) = 4
 work_ahead (body.DataLoadAck file) = 3
 work_ahead (body.RamFetch buffer n) = 8
 work_ahead (body.RamTransmit buffer n) = 9
+work_ahead (body.Other o) = 3
 
 -- after a message that is queued
 abbrev pub work_queued : EventCode → Body → ℕ
@@ -46,14 +48,14 @@ work_queued User b = work_ahead b
 work_queued Recorded b = work_ahead b
 work_queued Acknowledge b = work_back b
 
--- after a message that is queued in its block
+-- after a message that is queued in its block, as it is read
 abbrev pub parcel_work : Parcel → ℕ
-parcel_work p = work_queued p.code p.message.body
+parcel_work p = work_queued p.code (read_body p.message.body)
 
 -- after a message that is held: it will come back
 abbrev pub held_work : Option Parcel → ℕ
 held_work None = 0
-held_work (Some p) = work_back p.message.body + 1
+held_work (Some p) = work_back (read_body p.message.body) + 1
 
 -- the work of all messages
 abbrev pub post_work : Post → ℕ

@@ -32,6 +32,8 @@ refusal_number refusal.NoArea = 21
 refusal_number refusal.TooManyAreas = 22
 refusal_number refusal.NoNumbers = 23
 refusal_number refusal.TooBig = 24
+refusal_number refusal.WrongManner = 25
+refusal_number refusal.BadRef = 26
 
 -- a row of the table: a refusal, and whether its condition holds
 abbrev pub RefusalRow : Type 0

@@ -4,7 +4,7 @@
 use Rattle.std.specs.Prelude.{ℕ, ◌+◌, ◌-◌, ◌*◌, ℤ, pos, negsuc, Bool, ◌||◌, nat_lt, nat_le, ◌==◌, if◌then◌else◌, List, [], ◌∷◌, length, slice_index, find, Option, Some}
 use Rattle.std.specs.Option.{option_map}
 use Rattle.rh_defs.specs.declared.message.Body.{Body}
-use Rattle.rh_defs.specs.declared.message.Body.TheVariants.{DataSave, DataSaveAck, DataLoad, DataLoadAck, RamFetch, RamTransmit}
+use Rattle.rh_defs.specs.declared.message.Body.TheVariants.{DataSave, DataSaveAck, DataLoad, DataLoadAck, RamFetch, RamTransmit, Other}
 use Rattle.rh_defs.specs.Pieces.{page_size, pages_for, round_up, Split}
 use Rattle.rh_defs.specs.Heap.{Segment, Heap, base, hole_size, largest_hole, place_after, segment_size, size_of}
 use Rattle.rh_defs.specs.Slot.{Slot, slot_pages}
@@ -52,7 +52,7 @@ short_for n b h =
 abbrev pub file_message_size : ℕ → ℕ
 file_message_size n = 52 + round_up 4 (n + 1)
 
--- the bytes of the block of each message: one about a buffer takes 9 words
+-- the bytes of the block of each message: one about a buffer takes 9 words, another one 7 and its data
 abbrev pub message_size : Body → ℕ
 message_size (DataSave f) = file_message_size (length f.name)
 message_size (DataSaveAck f) = file_message_size (length f.name)
@@ -60,6 +60,7 @@ message_size (DataLoad f) = file_message_size (length f.name)
 message_size (DataLoadAck f) = file_message_size (length f.name)
 message_size (RamFetch buffer n) = 36
 message_size (RamTransmit buffer n) = 36
+message_size (Other o) = 28 + length o.1
 
 -- ---- areas
 

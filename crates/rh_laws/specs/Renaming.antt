@@ -6,6 +6,7 @@ use Rattle.std.specs.List.{list_any, AllByRecursion}
 use Rattle.std.specs.Option.{option_map}
 use Rattle.rh_defs.specs.declared.command.Command.{Command}
 use Rattle.rh_defs.specs.declared.command.Command.TheVariants as command
+use Rattle.rh_defs.specs.declared.raw_command.RawCommand.TheVariants as raw
 use Rattle.rh_defs.specs.declared.question.Question.{Question}
 use Rattle.rh_defs.specs.declared.question.Question.TheVariants as question
 use Rattle.rh_defs.specs.declared.question.Numbers.{Numbers}
@@ -58,9 +59,10 @@ renamed f d = record d {
   files = renamed_files f d.files;
 }
 
--- a command with the bytes that it puts renamed
+-- a command with the bytes that it puts or writes renamed; the data of a message stays, since no block gets it
 abbrev pub renamed_command : (ℕ → ℕ) → Command → Command
 renamed_command f (command.Put name k offset bytes) = command.Put name k offset (map f bytes)
+renamed_command f (command.Raw (raw.Write name x bytes)) = command.Raw (raw.Write name x (map f bytes))
 renamed_command f c = c
 
 -- what an answer lists, with the bytes renamed that it shows
@@ -117,9 +119,10 @@ AlwaysRenamed =
 abbrev pub has_byte : ℕ → List ℕ → Bool
 has_byte b bytes = list_any (λ x. x == b) bytes
 
--- whether a command puts the byte
+-- whether a command puts or writes the byte
 abbrev pub puts_byte : ℕ → Command → Bool
 puts_byte b (command.Put name k offset bytes) = has_byte b bytes
+puts_byte b (command.Raw (raw.Write name x bytes)) = has_byte b bytes
 puts_byte b c = false
 
 -- whether a byte is 0, or one that a command puts, or one of a file

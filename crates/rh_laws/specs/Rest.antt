@@ -7,11 +7,11 @@ use Rattle.rh_defs.specs.declared.transfer.Incoming.{Incoming}
 use Rattle.rh_defs.specs.declared.transfer.Outgoing.TheVariants as outgoing
 use Rattle.rh_defs.specs.declared.transfer.Sending.{Sending}
 use Rattle.rh_defs.specs.Range.{all_in_range}
-use Rattle.rh_defs.specs.Laws.{Always}
 use Rattle.rh_defs.specs.Records.{is_going}
 use Rattle.rh_defs.specs.Desk.{Desk, Task, task_at}
 use Rattle.rh_defs.specs.Runs.{after}
 use Rattle.rh_defs.specs.Transfer.{answers_none}
+use Rattle.rh_safety.specs.Played.{AfterPlayed}
 use Rattle.rh_laws.specs.Progress.{NamesAll, rounds_of, work}
 
 -- an open transfer of a task that answers no fetch: its DataSave is its last message, and it counts no byte
@@ -31,6 +31,6 @@ Settles d =
     (rounds : List (List (List ℕ))) → all_in_range (rounds_of rounds) ≡ true → AllByRecursion (NamesAll d) rounds →
     work d ≤ length rounds → IsSettled (after d (rounds_of rounds))
 
--- so it is of each desk that a run reaches
+-- so it is of each desk that a run reaches in which no command starts a task with code of its own
 abbrev pub AlwaysSettles : Type 0
-AlwaysSettles = Always Settles
+AlwaysSettles = AfterPlayed Settles

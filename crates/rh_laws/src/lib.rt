@@ -2,14 +2,18 @@
 #![tactic(auto)]
 
 mod addressed;
+mod cancels;
 mod claimed;
 mod delivered;
 mod done;
+mod files;
 mod frame;
 mod heaps;
 mod lines;
 mod live;
+mod moved;
 mod order;
+mod partners;
 mod progress;
 mod renaming;
 mod rest;
@@ -17,14 +21,18 @@ mod scrap;
 mod shown;
 
 pub use addressed::addressed_law;
+pub use cancels::cancel_law;
 pub use claimed::claimed_law;
 pub use delivered::delivered_law;
 pub use done::done_law;
+pub use files::file_law;
 pub use frame::frame_law;
 pub use heaps::describe_law;
 pub use lines::line_law;
 pub use live::live_law;
+pub use moved::moved_law;
 pub use order::refusal_order_law;
+pub use partners::partner_law;
 pub use progress::progress_law;
 pub use renaming::renaming_law;
 pub use rest::rest_law;
