@@ -109,9 +109,20 @@ impl Receiving {
             "records" => shown(alloc, self.receiver.records()),
             "is_document" => shown(alloc, self.receiver.is_document(row.anchor(2)?)),
             "is_buffer_of" => shown(alloc, self.receiver.is_buffer_of(row.number(2)?)),
+            "opens" => shown(alloc, self.opens(row)?),
+            "released" => shown(alloc, self.receiver.released_buffer(wanted(row))),
             "fetch" => shown(alloc, self.fetch(row)?),
             _ => None,
         }
+    }
+
+    /// Whether a transfer of a row's task fetches into a buffer of so much room that has the bytes of the row.
+    fn opens(&self, row: &Row<'_>) -> Option<bool> {
+        let (from, room) = (row.handle(2)?, row.number(3)?);
+        Some(
+            self.receiver
+                .opens(from, room, row.number(4)?, row.number(5)?),
+        )
     }
 
     /// The fetch that follows on the action, a first one into the buffer of a row.
@@ -135,6 +146,7 @@ fn named(word: &str, row: &Row<'_>) -> Option<TakeAction> {
         "claim" => Some(TakeAction::Claim(Claim {
             id: row.message(2)?,
             sender: row.handle(3)?,
+            raw: row.word(4) == Some("raw"),
         })),
         "ask" => Some(TakeAction::AskForFile(transfer(row)?)),
         "append" => Some(TakeAction::Append(Append {
@@ -155,5 +167,6 @@ fn transfer(row: &Row<'_>) -> Option<Taking> {
         buffer: row.number(5)?,
         count: row.number(6)?,
         fetch: row.message(7)?,
+        raw: row.word(9) == Some("raw"),
     })
 }

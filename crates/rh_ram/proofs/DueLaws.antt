@@ -5,6 +5,7 @@ use Rattle.std.specs.List.{list_any}
 use Rattle.std.specs.Cmp.Derive.{both_true}
 use Rattle.std.proofs.lemmas.Option.{none-some, same_Some}
 use Rattle.std.proofs.lemmas.Bool.{or_left, or_right}
+use mathlib.Core.Bool.{beq}
 use borrow.Author.Tests.{eq-eqb, leb-false, lt-ltb}
 use Rattle.rh_defs.specs.declared.transfer.Sending.{Sending}
 use Rattle.rh_defs.specs.declared.transfer.Taking.{Taking}
@@ -29,7 +30,11 @@ same_sending x =
 pub same_taking : (f : Taking) → is_same_taking f f ≡ true
 same_taking f =
     rw (eq-eqb f.id f.id refl) (rw (eq-eqb f.sender f.sender refl) (rw (eq-eqb f.anchor f.anchor refl)
-    (rw (eq-eqb f.buffer f.buffer refl) (rw (eq-eqb f.count f.count refl) (rw (eq-eqb f.fetch f.fetch refl) refl)))))
+    (rw (eq-eqb f.buffer f.buffer refl) (rw (eq-eqb f.count f.count refl) (rw (eq-eqb f.fetch f.fetch refl) (both f.raw))))))
+  where
+    both : (b : Bool) → beq b b ≡ true
+    both true = refl
+    both false = refl
 
 pub same_asked : (q : Asked) → is_same_asked q q ≡ true
 same_asked q =

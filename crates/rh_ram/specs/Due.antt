@@ -1,6 +1,7 @@
 -- Whether an action is due: whether its transfer is one of the records, as it stands there.
 use Rattle.std.specs.Prelude.{ℕ, ◌+◌, ◌^◌, Bool, true, false, not, ◌&&◌, nat_lt, ◌==◌, List}
 use Rattle.std.specs.List.{list_any}
+use mathlib.Core.Bool.{beq}
 use Rattle.rh_defs.specs.declared.transfer.Sending.{Sending}
 use Rattle.rh_defs.specs.declared.transfer.Taking.{Taking}
 use Rattle.rh_defs.specs.declared.transfer.Asked.{Asked}
@@ -25,6 +26,7 @@ is_same_sending x y = x.id == y.id && x.recipient == y.recipient && x.anchor == 
 abbrev pub is_same_taking : Taking → Taking → Bool
 is_same_taking f g =
     f.id == g.id && f.sender == g.sender && f.anchor == g.anchor && f.buffer == g.buffer && f.count == g.count && f.fetch == g.fetch
+    && beq f.raw g.raw
 
 -- whether two transfers that wait for a file are the same in all that is kept of them
 abbrev pub is_same_asked : Asked → Asked → Bool

@@ -5,7 +5,7 @@ use Rattle.rh_defs.specs.Messages.{action_number, action_of, encoded, encoded_le
 use Rattle.rh_defs.specs.Bytes.{with_part}
 use Rattle.rh_defs.specs.Pathnames.{is_pathname}
 use Rattle.rh_defs.specs.declared.message.Body.{Body}
-use Rattle.rh_defs.specs.declared.message.Body.TheVariants.{DataSave, DataSaveAck, DataLoad, DataLoadAck, RamFetch, RamTransmit}
+use Rattle.rh_defs.specs.declared.message.Body.TheVariants.{DataSave, DataSaveAck, DataLoad, DataLoadAck, RamFetch, RamTransmit, Other}
 use Rattle.rh_defs.specs.declared.message.FileData.{FileData}
 use Rattle.rh_defs.specs.declared.message.Message.{Message}
 use Rattle.rh_defs.specs.declared.message.MessageFault.{MessageFault}
@@ -63,6 +63,7 @@ words_with m (DataLoad f) = words_about_file m 3 f
 words_with m (DataLoadAck f) = words_about_file m 4 f
 words_with m (RamFetch buffer n) = words_about_bytes m 6 buffer n
 words_with m (RamTransmit buffer n) = words_about_bytes m 7 buffer n
+words_with m (Other o) = words_about_bytes m o.0 0 0
 
 -- a message as words
 abbrev pub as_words : Message → VfMessageWords

@@ -1,5 +1,5 @@
 -- A receiver, its records and its actions as structs of words.
-use Rattle.std.specs.Prelude.{ℕ, nat_lt, nat_le, ◌==◌, if◌then◌else◌, List, length, take, map, slice_get, Option, Some, None, Ok, Err}
+use Rattle.std.specs.Prelude.{ℕ, false, nat_lt, nat_le, ◌==◌, if◌then◌else◌, List, length, take, map, slice_get, Option, Some, None, Ok, Err}
 use Rattle.rh_defs.specs.declared.sizes.TheConstants.{ANCHORS, MOST_RECORDS}
 use Rattle.rh_defs.specs.declared.transfer.Asked.{Asked}
 use Rattle.rh_defs.specs.declared.transfer.Incoming.{Incoming}
@@ -30,11 +30,12 @@ use Rattle.vf_ram.specs.WithStatus.{WithStatus, and_then, bad_action, bad_record
 abbrev pub as_taking : Taking → VfTaking
 as_taking f = record { id = f.id; sender = f.sender; anchor = f.anchor; buffer = f.buffer; count = f.count; fetch = f.fetch }
 
--- none where the anchor is none of a slot's
+-- none where the anchor is none of a slot's; of a sender that isn't known to have code of its own
 abbrev pub taking_of : VfTaking → Option Taking
 taking_of w =
     if nat_lt w.anchor ANCHORS
-    then Some (record { id = w.id; sender = w.sender; anchor = w.anchor; buffer = w.buffer; count = w.count; fetch = w.fetch }) else None
+    then Some (record { id = w.id; sender = w.sender; anchor = w.anchor; buffer = w.buffer; count = w.count; fetch = w.fetch; raw = false })
+    else None
 
 -- one that waits for a file has the ref of its DataSaveAck in place of a fetch's
 abbrev pub as_asked : Asked → VfTaking
@@ -144,7 +145,7 @@ asked_in w = or_status (asked_of w.transfer) bad_action
 
 -- the action, where it is to claim
 abbrev pub claim_in : VfTakeAction → WithStatus Claim
-claim_in w = if w.what == 4 then Ok (record { id = w.transfer.id; sender = w.transfer.sender }) else Err bad_action
+claim_in w = if w.what == 4 then Ok (record { id = w.transfer.id; sender = w.transfer.sender; raw = false }) else Err bad_action
 
 -- what follows on bytes
 abbrev pub next_in : VfTakeAction → WithStatus Next

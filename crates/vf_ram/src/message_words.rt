@@ -94,6 +94,7 @@ impl VfMessageWords {
             Body::RamTransmit { buffer, written } => {
                 VfMessageWords::of_bytes(message, action, *buffer, *written)
             }
+            Body::Other(_) => VfMessageWords::of_bytes(message, action, 0, 0),
         }
     }
 

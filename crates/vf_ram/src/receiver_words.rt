@@ -177,6 +177,7 @@ impl VfTaking {
             buffer: self.buffer,
             count: self.count,
             fetch: Ref(self.fetch),
+            raw: false,
         })
     }
 
@@ -450,6 +451,7 @@ impl VfTakeAction {
         Ok(Claim {
             id: Ref(self.transfer.id),
             sender: Handle(self.transfer.sender),
+            raw: false,
         })
     }
 
