@@ -1,12 +1,18 @@
 -- What was encoded in a block is decoded from it, whatever stands behind it.
 use Rattle.rh_wimp.proofs.Common.{◌≡◌, ℕ, ◌+◌, ◌*◌, ◌%◌, ◌≤◌, List, [], ◌∷◌, length, take, ap, sym, subst, ◌∙◌, arith, word, with_part, action_number}
 use Rattle.rh_wimp.proofs.Common.{action_of}
-use Rattle.rh_wimp.proofs.Common.{data_words, encoded, Body, DataSave, DataSaveAck, DataLoad, DataLoadAck, RamFetch, RamTransmit, Message, length-encoded}
-use Rattle.std.proofs.lemmas.List.{length-take-le}
+use Rattle.rh_wimp.proofs.Common.{data_words, encoded, Body, DataSave, DataSaveAck, DataLoad, DataLoadAck, RamFetch, RamTransmit, Other, Message}
+use Rattle.rh_wimp.proofs.Common.{length-encoded, body_bytes, words, true, refl, ◌++◌, ◌-◌, drop, part, decoded, any_decoded, encoded_length}
+use Rattle.std.proofs.lemmas.List.{length-take-le, take_all}
+use Rattle.std.proofs.Common.{length-drop}
 use Rattle.rh_defs.specs.Bytes.{SameIn}
 use Rattle.rh_defs.specs.MessageImage.{SpellWords, SpellsName, SpellsTail, SpellsMessage}
-use Rattle.rh_defs.proofs.BytesLaws.{SameIn-narrower, SameIn-take, length-put, part_same, put_inside, word_same}
+use Rattle.rh_defs.specs.AnyMessage.{data_bytes}
+use Rattle.rh_defs.specs.Messages.{is_kind}
+use Rattle.rh_defs.proofs.AnyMessageLaws.{any-spelled}
+use Rattle.rh_defs.proofs.BytesLaws.{SameIn-narrower, SameIn-take, length-put, part-append_right, part-drop, part_same, put_inside, word_same}
 use Rattle.rh_defs.proofs.MessageImageLaws.{encoded-spells, spelled-decodes}
+use Rattle.rh_defs.proofs.MessageLaws.{encoded-words, length-body, length-words, message_words}
 use Rattle.rh_wimp.specs.QueueLaws.{ComesBack}
 
 -- the words of a message end below its length
@@ -17,6 +23,7 @@ words-fit b end (DataLoad f) s = omega (arith, s.0)
 words-fit b end (DataLoadAck f) s = omega (arith, s.0)
 words-fit b end (RamFetch buffer n) s = omega (arith, s)
 words-fit b end (RamTransmit buffer n) s = omega (arith, s)
+words-fit b end (Other o) s = absurd s
 
 -- bytes that begin as those of a message do spell it too
 module _ (b c : List ℕ) (same : SameIn b c 0 (length b)) where
@@ -43,6 +50,7 @@ module _ (b c : List ℕ) (same : SameIn b c 0 (length b)) where
   tail-there end (DataLoadAck f) within s = name-there end f.name within s
   tail-there end (RamFetch buffer n) within s = s
   tail-there end (RamTransmit buffer n) within s = s
+  tail-there end (Other o) within s = s
 
   message-there : (m : Message) → length b ≤ length c → SpellsMessage b m → SpellsMessage c m
   message-there m longer s =
@@ -65,11 +73,44 @@ front-same block xs n low high = record {
       ∙ put_inside block 0 xs k k below (omega arith) (omega arith);
 }
 
-pub comes-back : ComesBack
-comes-back m block n fits whole low high =
+pub comes-back : ComesBack (λ (m : Message). is_kind m.body ≡ true) decoded
+comes-back m block n fits kind whole low high =
     let l = length-encoded m in
     let there = front-same block (encoded m) n (omega arith) (omega arith) in
     let many = length-take-le n (with_part block 0 (encoded m)) (omega (arith, length-put block 0 (encoded m))) in
     let long = length-put block 0 (encoded m) in
     spelled-decodes (take n (with_part block 0 (encoded m))) m
-    (message-there (encoded m) (take n (with_part block 0 (encoded m))) there m (omega (arith, many, long)) (encoded-spells m fits))
+    (message-there (encoded m) (take n (with_part block 0 (encoded m))) there m (omega (arith, many, long)) (encoded-spells m fits kind))
+
+-- ---- messages of any action
+-- four words stand before the action
+behind-head : (m : Message) → encoded m ≡ words (encoded_length m ∷ m.from ∷ m.my_ref ∷ m.your_ref ∷ []) ++ body_bytes m.body
+unfolding encoded
+behind-head m = refl
+
+data-is : (m : Message) → part (encoded m) 20 (encoded_length m - 20) ≡ data_bytes m.body
+data-is m =
+    let head : List ℕ = words (encoded_length m ∷ m.from ∷ m.my_ref ∷ m.your_ref ∷ []) in
+    let b : List ℕ = body_bytes m.body in
+    let w = length-words (encoded_length m ∷ m.from ∷ m.my_ref ∷ m.your_ref ∷ []) in
+    let l = length-body m.body in
+    let k : ℕ = encoded_length m - 20 in
+    ap (λ x. part x 20 k) (behind-head m)
+    ∙ ap (λ i. part (head ++ b) i k) (let q : 20 ≡ length head + 4 = omega (arith, w) in q)
+    ∙ part-append_right head b 4 k
+    ∙ part-drop b 4 k (omega (arith, l))
+    ∙ take_all k (drop 4 b) (omega (arith, length-drop 4 b))
+
+pub any-comes-back : ComesBack (λ (m : Message). Unit) any_decoded
+any-comes-back m block n fits allowed whole low high =
+    let b : List ℕ = take n (with_part block 0 (encoded m)) in
+    let l = length-encoded m in
+    let there = front-same block (encoded m) n (omega arith) (omega arith) in
+    let many = length-take-le n (with_part block 0 (encoded m)) (omega (arith, length-put block 0 (encoded m))) in
+    let long = length-put block 0 (encoded m) in
+    let body = length-body m.body in
+    any-spelled b m fits
+    (words-there (encoded m) b there 0 (message_words m) (omega (arith, l, body)) (encoded-words m fits))
+    (omega (arith, many, long, l, low, high, whole))
+    (part_same (encoded m) b 20 (encoded_length m - 20)
+    (SameIn-narrower (encoded m) b 0 (length (encoded m)) 20 (20 + (encoded_length m - 20)) there (omega arith) (omega (arith, l, body))) ∙ data-is m)

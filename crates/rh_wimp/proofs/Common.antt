@@ -23,6 +23,7 @@ pub use Rattle.rh_defs.specs.Chain.{Granted, answer_of, left_of}
 pub use Rattle.rh_defs.specs.Heap.{Heap, block_room, release_block}
 pub use Rattle.rh_defs.specs.Memory.{Memory, OnlyArea}
 unfoldable pub use Rattle.rh_defs.specs.Memory.{bytes}
+unfoldable pub use Rattle.rh_defs.specs.AnyMessage.{any_decoded}
 unfoldable pub use Rattle.rh_defs.specs.MessageImage.{decoded}
 pub use Rattle.rh_defs.specs.Messages.{Parcel, action_at, action_number, action_of, code_number, data_words, encoded_length, is_recorded, parcel_size, words}
 unfoldable pub use Rattle.rh_defs.specs.Messages.{body_bytes, encoded, padded, parcel_bytes}
@@ -33,7 +34,7 @@ pub use Rattle.rh_defs.specs.Post.{live_count, most_messages, taken, taken_from,
 unfoldable pub use Rattle.rh_defs.specs.Post.{post_death, post_join, post_poll}
 pub use Rattle.rh_defs.specs.declared.message.Action.{Action}
 pub use Rattle.rh_defs.specs.declared.message.Body.{Body}
-pub use Rattle.rh_defs.specs.declared.message.Body.TheVariants.{DataLoad, DataLoadAck, DataSave, DataSaveAck, RamFetch, RamTransmit}
+pub use Rattle.rh_defs.specs.declared.message.Body.TheVariants.{DataLoad, DataLoadAck, DataSave, DataSaveAck, Other, RamFetch, RamTransmit}
 pub use Rattle.rh_defs.specs.declared.message.EventCode.{EventCode}
 pub use Rattle.rh_defs.specs.declared.message.Message.{Message}
 pub use Rattle.rh_defs.specs.declared.message.MessageFault.{MessageFault}

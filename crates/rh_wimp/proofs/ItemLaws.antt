@@ -1,7 +1,7 @@
 -- The live messages as they are listed.
-use Rattle.rh_wimp.proofs.Common.{◌≡◌, ℕ, zero, suc, ◌+◌, ◌<◌, ◌≤◌, ◌≢◌, ◌^◌, Bool, true, false, List, [], ◌∷◌, ◌++◌, length, map, drop, get_or, refl, sym}
+use Rattle.rh_wimp.proofs.Common.{◌≡◌, ℕ, zero, suc, ◌+◌, ◌<◌, ◌≤◌, ◌≢◌, Bool, true, false, List, [], ◌∷◌, ◌++◌, length, map, drop, get_or, refl, sym}
 use Rattle.rh_wimp.proofs.Common.{ap, ◌∙◌, arith, append-nil, length-map, length-append, append_assoc, Option, Some, None, word, HasBlock, block_bytes, Heap}
-use Rattle.rh_wimp.proofs.Common.{Memory, bytes, Parcel, action_at, action_number, action_of, padded, parcel_size, Action, EventCode, total, Seat, Post}
+use Rattle.rh_wimp.proofs.Common.{Memory, bytes, Parcel, padded, parcel_size, Action, EventCode, total, Seat, Post}
 use Rattle.rh_wimp.proofs.Common.{count_held, most_messages, room_enough, encoded-most, length-padded, link_read, IsModule, module_heap_in, Module, Chain}
 use Rattle.rh_wimp.proofs.Common.{Chains}
 use Rattle.rh_wimp.proofs.Common.{Holds, ArePostChains, SeatRow, first_block, held_list, no_row, seat_row, row_at, rows_of, LinksAt, held_items}
@@ -9,8 +9,6 @@ use Rattle.rh_wimp.proofs.Common.{message_item_of, waiting_items}
 use Rattle.rh_wimp.proofs.Common.{by_seats, area_limit}
 use Rattle.std.proofs.Math.ListN.{drop_of_length-le}
 use Rattle.rh_defs.specs.Messages.{Fits}
-use Rattle.rh_defs.specs.declared.message.Action.TheVariants as action
-use Rattle.rh_defs.proofs.ParcelLaws.{padded-words}
 use Rattle.rh_defs.specs.declared.message.MessageItem.{MessageItem}
 use Rattle.rh_wimp.proofs.OrderLaws.{by_seats-length, sent_to}
 use Rattle.rh_wimp.proofs.PollLaws.{next-small}
@@ -20,20 +18,17 @@ use Rattle.rh_wimp.proofs.TakeLaws.{next-there}
 
 -- ---- one block
 -- a message's block has room for all words that every message has
-padded-more : (link : ℕ) (p : Parcel) → Fits p.message → 36 ≤ length (padded link p)
+padded-more : (link : ℕ) (p : Parcel) → Fits p.message → 28 ≤ length (padded link p)
 padded-more link p f =
     let n = encoded-most p.message f.name in
     let least = n.0 in
     omega (arith, length-padded link p, room_enough (parcel_size p.message), least)
 
-pub action_read : (x : ℕ) (p : Parcel) → x < 2 ^ 32 → Fits p.message → word (padded x p) 24 ≡ action_number (action_of p.message.body)
-action_read x p l f = (padded-words x p l f).1.1.1.1.1.1.0
-
 module _ {m : Memory} {module_area : Module} {block link : ℕ} {p : Parcel} (w : LinksAt m module_area block link p) where
   pub links-bytes : block_bytes block (module_heap_in m module_area) ≡ Some (padded link p)
   links-bytes = ap (λ a. block_bytes a (module_heap_in m module_area)) w.block_is ∙ w.lies.block
 
-  pub links-has : HasBlock block 36 (module_heap_in m module_area)
+  pub links-has : HasBlock block 28 (module_heap_in m module_area)
   links-has = record { bytes = padded link p; found = links-bytes; room = padded-more link p w.lies.fits }
 
 -- what is read is an item
@@ -42,14 +37,6 @@ pub same-item : {block block' to from from' ref ref' : ℕ} {held : Bool} {act a
     → (let x : MessageItem = record { block = block; to = to; from = from; my_ref = ref; action = act; code = code; held = held } in x)
     ≡ (let y : MessageItem = record { block = block'; to = to; from = from'; my_ref = ref'; action = act'; code = code'; held = held } in y)
 same-item p q r s t = cc
-
-pub known : (act : Action) → action_at (action_number act) ≡ Some act
-known action.DataSave = refl
-known action.DataSaveAck = refl
-known action.DataLoad = refl
-known action.DataLoadAck = refl
-known action.RamFetch = refl
-known action.RamTransmit = refl
 
 -- ---- a walk along a chain
 abbrev pub waiting : ℕ → List Parcel → List MessageItem

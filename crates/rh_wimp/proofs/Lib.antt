@@ -1,5 +1,6 @@
 pub mod EncodeLaws
 pub mod DecodeLaws
+pub mod AnyLaws
 pub mod CodecLaws
 pub mod RowLaws
 pub mod RowEdits
@@ -24,5 +25,7 @@ pub mod PostCalls
 pub mod BesideLaws
 pub mod ItemLaws
 pub mod PeekLaws
+pub mod HandedLaws
+pub mod HoldLaws
 pub mod PlaceLaws
 pub mod Common

@@ -1,7 +1,8 @@
 -- The walk along the chains finds the post that the queue spells.
 use Rattle.rh_wimp.proofs.Common.{◌≡◌, ℕ, zero, suc, ◌+◌, ◌<◌, ◌≤◌, ◌≢◌, ◌^◌, inl, inr, Bool, true, false, cond, eqb, List, [], ◌∷◌, ◌++◌, length, map, refl}
 use Rattle.rh_wimp.proofs.Common.{sym, ap, subst, ◌∙◌, arith, cases_eq, length-map, Option, Some, None, ◌==◌, option_map, block_bytes, poked, SameShape, part}
-use Rattle.rh_wimp.proofs.Common.{word, word_bytes, Heap, decoded, Memory, bytes, Parcel, code_number, padded, Seat, Post, most_messages, EventCode, Message}
+use Rattle.rh_wimp.proofs.Common.{word, word_bytes, Heap, any_decoded, Memory, bytes, Parcel, code_number, padded, Seat, Post, most_messages, EventCode}
+use Rattle.rh_wimp.proofs.Common.{Message}
 use Rattle.rh_wimp.proofs.Common.{poked-pokes, cond_true, cond_false, eqb_same, eqb_apart, code_read, length_read, link_read, message_read, padded-relinked}
 use Rattle.rh_wimp.proofs.Common.{poked-shape, shape-both, block_within, IsModule, module_heap_in, Module, Chain, Chains, Holds, Lies, SeatRow, RowLies}
 use Rattle.rh_wimp.proofs.Common.{RowsLie}
@@ -13,7 +14,7 @@ use Rattle.rh_defs.specs.Heap.{Segment, Used, Hole}
 use Rattle.rh_defs.specs.Messages.{code_at}
 use Rattle.rh_defs.specs.declared.message.EventCode.TheVariants.{User, Recorded, Acknowledge}
 use Rattle.rh_defs.proofs.BlockLaws.{below}
-use Rattle.rh_defs.proofs.MessageImageLaws.{decoded-encoded}
+use Rattle.rh_defs.proofs.AnyMessageLaws.{any-encoded}
 use Rattle.rh_wimp.specs.PostIn.{message_bytes, or_no_bytes, or_user, or_no_message, parcel_in, chain_in, held_in, row_in, rows_in, seat_of, chains_of}
 use Rattle.rh_wimp.specs.PostIn.{parcels_of}
 use Rattle.rh_wimp.specs.PostIn.{unlinked, post_of, for_task}
@@ -151,12 +152,17 @@ parcel-found h to link p small l =
     let e : message_bytes p.block h ≡ padded link p = ap or_no_bytes l.block in
     let code : or_user (code_at (word (message_bytes p.block h) 4)) ≡ p.code =
     ap (λ b. or_user (code_at (word b 4))) e ∙ ap (λ n. or_user (code_at n)) (code_read link p small l.fits) ∙ code-known p.code in
-    let message : or_no_message (decoded (part (message_bytes p.block h) 8 (word (message_bytes p.block h) 8))) ≡ p.message =
-    ap (λ b. or_no_message (decoded (part b 8 (word b 8)))) e
-    ∙ ap (λ b. or_no_message (decoded b)) (message_read link p (word (padded link p) 8) (length_read link p small l.fits))
-    ∙ ap or_no_message (decoded-encoded p.message l.fits) in
+    let message : or_no_message (any_decoded (part (message_bytes p.block h) 8 (word (message_bytes p.block h) 8))) ≡ p.message =
+    ap (λ b. or_no_message (any_decoded (part b 8 (word b 8)))) e
+    ∙ ap (λ b. or_no_message (any_decoded b)) (message_read link p (word (padded link p) 8) (length_read link p small l.fits))
+    ∙ ap or_no_message (any-encoded p.message l.fits) in
     ap (λ (c : EventCode). let x : Parcel =
-    record { code = c; to = to; block = p.block; message = or_no_message (decoded (part (message_bytes p.block h) 8 (word (message_bytes p.block h) 8))) } in
+    record {
+      code = c;
+      to = to;
+      block = p.block;
+      message = or_no_message (any_decoded (part (message_bytes p.block h) 8 (word (message_bytes p.block h) 8)));
+    } in
     x) code
     ∙ ap (λ (m : Message). let x : Parcel = record { code = p.code; to = to; block = p.block; message = m } in x) message
 

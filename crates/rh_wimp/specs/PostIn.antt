@@ -10,7 +10,7 @@ use Rattle.rh_defs.specs.declared.message.MessageFault.{MessageFault}
 use Rattle.rh_defs.specs.Blocks.{block_bytes, poked}
 use Rattle.rh_defs.specs.Bytes.{part, word, word_bytes}
 use Rattle.rh_defs.specs.Heap.{Heap}
-use Rattle.rh_defs.specs.MessageImage.{decoded}
+use Rattle.rh_defs.specs.AnyMessage.{any_decoded}
 use Rattle.rh_defs.specs.Messages.{Parcel, code_at}
 use Rattle.rh_defs.specs.Post.{Seat, Post}
 use Rattle.rh_defs.specs.Memory.{Memory}
@@ -44,7 +44,7 @@ parcel_of_bytes to block bytes = record {
   code = or_user (code_at (word bytes 4));
   to = to;
   block = block;
-  message = or_no_message (decoded (part bytes 8 (word bytes 8)));
+  message = or_no_message (any_decoded (part bytes 8 (word bytes 8)));
 }
 
 abbrev pub parcel_in : ℕ → ℕ → Heap → Parcel

@@ -1,10 +1,10 @@
 -- What holds of every queue over every module area, and of every message block.
-use Rattle.std.specs.Prelude.{◌≡◌, ℕ, ◌≤◌, List, length, take, Ok}
+use Rattle.std.specs.Prelude.{◌≡◌, ℕ, ◌≤◌, List, length, take, Result, Ok}
 use Rattle.rh_defs.specs.declared.sizes.TheConstants.{LONGEST_MESSAGE}
 use Rattle.rh_defs.specs.Bytes.{with_part}
-use Rattle.rh_defs.specs.MessageImage.{decoded}
 use Rattle.rh_defs.specs.Messages.{Fits, encoded, encoded_length}
 use Rattle.rh_defs.specs.declared.message.Message.{Message}
+use Rattle.rh_defs.specs.declared.message.MessageFault.{MessageFault}
 use Rattle.rh_defs.specs.Chain.{Granted, answer_of, left_of}
 use Rattle.rh_defs.specs.Heap.{Heap}
 use Rattle.rh_defs.specs.Memory.{Memory, bytes}
@@ -37,9 +37,9 @@ GoesBeside {A} allowed call =
     → module_calls.LeavesModule m n module_area (call m.free (module_heap_in m module_area)) result
     → (result ≡ answer_of (call m.free post.heap)) × SpellsPostIn n module_area q (post_with_heap (left_of post.heap (call m.free post.heap)) post)
 
--- What stands in a message block once a message was encoded there decodes to that message: the whole block, whatever was
--- in it before, and each front of it that has the message's length.
-abbrev pub ComesBack : Type 0
-ComesBack =
-    (m : Message) (block : List ℕ) (n : ℕ) → Fits m → length block ≡ LONGEST_MESSAGE → encoded_length m ≤ n → n ≤ LONGEST_MESSAGE
-    → decoded (take n (with_part block 0 (encoded m))) ≡ Ok m
+-- What stands in a message block once an allowed message was encoded there is read as that message: the whole block,
+-- whatever was in it before, and each front of it that has the message's length.
+abbrev pub ComesBack : (Message → Type 0) → (List ℕ → Result Message MessageFault) → Type 0
+ComesBack allowed read =
+    (m : Message) (block : List ℕ) (n : ℕ) → Fits m → allowed m → length block ≡ LONGEST_MESSAGE → encoded_length m ≤ n → n ≤ LONGEST_MESSAGE
+    → read (take n (with_part block 0 (encoded m))) ≡ Ok m

@@ -2,13 +2,15 @@
 ghost use Rattle.std.specs.Prelude.{◌≡◌, ◌≤◌, ◌+◌, ◌==◌, length, true, Some, Ok, IfOk};
 ghost use Rattle.std.specs.List.{position};
 ghost use Rattle.rh_defs.specs.declared.sizes.TheConstants.{LONGEST_MESSAGE, LONGEST_PATHNAME};
-ghost use Rattle.rh_defs.specs.Bytes.{part};
+ghost use Rattle.rh_defs.specs.Bytes.{part, word};
+ghost use Rattle.rh_defs.specs.AnyMessage.{any_decoded};
 ghost use Rattle.rh_defs.specs.MessageImage.{SpellsMessage, body_for, decoded, file_in, has_length as has_length_of};
 ghost use Rattle.rh_defs.specs.MessageImage.{name_length};
 ghost use Rattle.rh_defs.specs.Pathnames.{is_plain};
 ghost use Rattle.rh_defs.specs.declared.message.Message.{Message as SpecMessage};
-ghost use Rattle.rh_wimp.specs.declared.layout.TheConstants.{LEAST_LENGTH, NAME};
+ghost use Rattle.rh_wimp.specs.declared.layout.TheConstants.{LEAST_LENGTH, MY_REF, NAME, SENDER, YOUR_REF};
 
+use crate::any_body::any_body;
 use crate::bytes::get_word;
 use crate::layout::{
     ACTION, DATA, LEAST_FILE_LENGTH, LEAST_LENGTH, LEAST_RAM_LENGTH, MY_REF, NAME, SENDER, YOUR_REF,
@@ -66,7 +68,7 @@ fn decode_file(bytes: &[u8], end: usize) -> Result<FileData, MessageFault>
 }
 
 /// Data of a message of so many bytes, whose action this is.
-fn decode_body(bytes: &[u8], end: usize, action: Action) -> Result<Body, MessageFault>
+pub(crate) fn decode_body(bytes: &[u8], end: usize, action: Action) -> Result<Body, MessageFault>
     requires low { LEAST_LENGTH ≤ end }
     requires high { end ≤ length bytes.now }
     requires small { end ≤ LONGEST_MESSAGE }
@@ -95,6 +97,7 @@ fn decode_body(bytes: &[u8], end: usize, action: Action) -> Result<Body, Message
                 written: get_word(bytes, DATA + WORD),
             })
         }
+        Action::Other(_) => Err(MessageFault::BadAction),
     }
 }
 
@@ -107,6 +110,24 @@ fn has_length(bytes: &[u8]) -> bool
     }
     let end = get_word(bytes, 0) as usize;
     LEAST_LENGTH <= end && end <= LONGEST_MESSAGE && end % WORD == 0 && end <= bytes.len()
+}
+
+/// The message that says this, with the sender and the refs of a message block.
+fn message_with(bytes: &[u8], body: Body) -> Message
+    requires { LEAST_LENGTH ≤ length bytes.now }
+    ensures { result ≡ record {
+      from = word bytes.now SENDER;
+      my_ref = word bytes.now MY_REF;
+      your_ref = word bytes.now YOUR_REF;
+      body = body;
+    } }
+{
+    Message {
+        from: Handle(get_word(bytes, SENDER)),
+        my_ref: Ref(get_word(bytes, MY_REF)),
+        your_ref: Ref(get_word(bytes, YOUR_REF)),
+        body,
+    }
 }
 
 /// Reads a message. Bytes past its length, and past what its kind needs, are ignored. Refused with the first fault:
@@ -125,10 +146,17 @@ pub fn decode(bytes: &[u8]) -> Result<Message, MessageFault>
         return Err(MessageFault::BadAction);
     };
     let body = decode_body(bytes, end, action)?;
-    Ok(Message {
-        from: Handle(get_word(bytes, SENDER)),
-        my_ref: Ref(get_word(bytes, MY_REF)),
-        your_ref: Ref(get_word(bytes, YOUR_REF)),
-        body,
-    })
+    Ok(message_with(bytes, body))
+}
+
+/// Reads a message of any action. Bytes past its length are ignored. Refused with `BadLength` where the length word
+/// isn't a multiple of 4 from 20 to the most, or bytes are missing.
+pub fn decode_any(bytes: &[u8]) -> Result<Message, MessageFault>
+    ensures { result ≡ any_decoded bytes.now }
+{
+    if !has_length(bytes) {
+        return Err(MessageFault::BadLength);
+    }
+    let body = any_body(bytes, get_word(bytes, 0) as usize);
+    Ok(message_with(bytes, body))
 }

@@ -69,6 +69,17 @@ fn encode_pair(buffer: u32, n: u32, out: &mut [u8]) -> usize
     RAM_LENGTH
 }
 
+/// Writes the bytes of data from offset 20 on, and answers their length.
+fn encode_data(bytes: &[u8], out: &mut [u8]) -> usize
+    requires room { length out.old ≡ LONGEST_MESSAGE }
+    requires fits { DATA + length bytes.now ≤ LONGEST_MESSAGE }
+    ensures bytes { out.new ≡ with_part out.old DATA bytes.now }
+    ensures length { result ≡ length bytes.now }
+{
+    put_bytes(out, DATA, bytes);
+    bytes.len()
+}
+
 /// Writes action and data from offset 16 on, and answers their length.
 fn encode_body(body: &Body, out: &mut [u8]) -> usize
     requires { length out.old ≡ LONGEST_MESSAGE }
@@ -86,6 +97,7 @@ fn encode_body(body: &Body, out: &mut [u8]) -> usize
         Body::DataLoadAck(file) => encode_file(file, out),
         Body::RamFetch { buffer, length } => encode_pair(*buffer, *length, out),
         Body::RamTransmit { buffer, written } => encode_pair(*buffer, *written, out),
+        Body::Other(other) => encode_data(other.data().as_slice(), out),
     }
 }
 
@@ -109,6 +121,7 @@ pub fn body_length(body: &Body) -> usize
         Body::DataLoadAck(file) => file_length(file),
         Body::RamFetch { .. } => RAM_LENGTH,
         Body::RamTransmit { .. } => RAM_LENGTH,
+        Body::Other(other) => other.data().as_slice().len(),
     }
 }
 

@@ -1,15 +1,21 @@
 //! Laws over the definitions alone, each the contract of a function with nothing to do.
-ghost use Rattle.std.specs.Prelude.{◌≡◌, ℕ, ℤ, false};
+ghost use Rattle.std.specs.Prelude.{◌≡◌, ℕ, ℤ, false, true};
+ghost use Rattle.rh_defs.specs.AnyMessage.{any_decoded};
 ghost use Rattle.rh_defs.specs.Chain.{no_answer};
 ghost use Rattle.rh_defs.specs.Heap.{Heap};
+ghost use Rattle.rh_defs.specs.MessageImage.{decoded};
+ghost use Rattle.rh_defs.specs.Messages.{is_kind};
+ghost use Rattle.rh_defs.specs.declared.message.Message.{Message};
 ghost use Rattle.rh_defs.specs.Module.{module_change, module_claim, module_free, module_resize};
 ghost use Rattle.rh_defs.specs.Post.{Post, post_is_message};
 ghost use Rattle.rh_wimp.specs.QueueLaws.{ComesBack, GoesBeside, HaveOnePost};
 
-/// What `encode` wrote, `decode` reads as the same message: from the whole block, whatever stood behind the message in
-/// it, and from each front of the block that has the message's length.
+/// What `encode` wrote, `decode` reads as the same message where it is one of the six kinds, and `decode_any` whatever
+/// it is: from the whole block, whatever stood behind the message in it, and from each front of the block that has the
+/// message's length.
 pub fn codec_law()
-    ensures { ComesBack }
+    ensures kinds { ComesBack (λ (m : Message). is_kind m.body ≡ true) decoded }
+    ensures any { ComesBack (λ (m : Message). Unit) any_decoded }
 {}
 
 /// A queue and the module area spell one post, the one that is read from them; but the order of messages to different

@@ -2,11 +2,13 @@
 //! each task, as the queue, is a `Table`: a row of fixed length, which takes no memory.
 #![tactic(auto)]
 
+mod any_body;
 mod bytes;
 mod chain;
 mod death;
 mod decoding;
 mod encoding;
+mod holding;
 mod laws;
 mod layout;
 mod listing;
@@ -19,7 +21,8 @@ mod searching;
 mod sending;
 mod table;
 
-pub use decoding::decode;
+pub use any_body::{body_of, read_body};
+pub use decoding::{decode, decode_any};
 pub use encoding::encode;
 pub use laws::{beside_law, codec_law, post_law};
 pub use queue::Queue;

@@ -9,13 +9,13 @@ ghost use Rattle.rh_wimp.specs.Chains.{Chain, Holds, SeatRow, RowsLie, first_blo
 ghost use Rattle.rh_wimp.specs.QueueItems.{LinksAt, held_items, message_item_of, message_items, waiting_items};
 
 use crate::chain::Entry;
-use crate::layout::{ACTION, LINK, MESSAGE, MY_REF, SENDER};
+use crate::layout::LINK;
 use crate::queue::Queue;
-use crate::reading::code_in;
+use crate::reading::{code_in, read_linked};
 use crate::table::Table;
 use arrayvec::ArrayVec;
 use rh_defs::sizes::{MAX_TASKS, MOST_MESSAGES};
-use rh_defs::{Action, Handle, MessageItem, Ref};
+use rh_defs::{Handle, MessageItem, Ref};
 use rh_module::Module;
 use rh_store::Words;
 
@@ -136,13 +136,13 @@ fn read_item<S: Words>(
     ensures { (link : ℕ) (p : Parcel) → LinksAt (S.memory store.now) module_area block link p → result
         ≡ message_item_of to held p }
 {
-    let action = module_area.read_word(store, block, MESSAGE + ACTION);
+    let message = read_linked(store, module_area, block);
     MessageItem {
         block: block as u32,
         to,
-        from: Handle(module_area.read_word(store, block, MESSAGE + SENDER)),
-        my_ref: Ref(module_area.read_word(store, block, MESSAGE + MY_REF)),
-        action: Action::from_number(action).unwrap(),
+        from: message.from,
+        my_ref: message.my_ref,
+        action: message.body.action(),
         code: code_in(store, module_area, block),
         held,
     }

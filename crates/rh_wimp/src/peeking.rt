@@ -4,6 +4,7 @@ ghost use Rattle.std.specs.Option.{option_map};
 ghost use Rattle.rh_defs.specs.Memory.{Memory};
 ghost use Rattle.rh_defs.specs.Messages.{Parcel};
 ghost use Rattle.rh_defs.specs.Post.{holds_such, post_poll};
+ghost use Rattle.rh_defs.specs.RawTasks.{handed_parts};
 ghost use Rattle.rh_module.specs.ModuleArea.{IsModule, module_heap_in};
 ghost use Rattle.rh_wimp.specs.QueueCalls.{Answers, IsQueue};
 ghost use Rattle.rh_wimp.specs.Chains.{HasEntry, Holds};
@@ -12,9 +13,9 @@ ghost use Rattle.rh_wimp.specs.QueueItems.{with_message};
 use crate::chain::find;
 use crate::layout::{MESSAGE, SENDER};
 use crate::queue::Queue;
-use crate::reading::{code_in, copy_block};
+use crate::reading::{code_in, copy_block, parts_in};
 use rh_defs::sizes::LONGEST_MESSAGE;
-use rh_defs::{EventCode, Handle};
+use rh_defs::{Data, EventCode, Handle};
 use rh_module::Module;
 use rh_store::Words;
 
@@ -50,6 +51,33 @@ impl Queue {
         // What the task holds would come back to itself.
         copy_block(store, module_area, entry.held, block);
         Some(EventCode::Acknowledge)
+    }
+
+    /// The sender of the message that the next poll of a live task would hand out, and its data; none where that poll
+    /// would hand out nothing.
+    pub fn next_parts<S: Words>(
+        &self,
+        store: &S,
+        module_area: Module,
+        handle: Handle,
+    ) -> Option<(Handle, Data)>
+        requires queue { IsQueue (S.memory store.now) module_area self.now }
+        requires live { HasEntry handle self.now }
+        ensures { Answers (S.memory store.now) module_area self.now
+            (λ post. option_map handed_parts (post_poll handle post).1) result }
+    {
+        let Some(at) = find(&self.entries, handle) else {
+            return None;
+        };
+        let entry = self.entries[at];
+        if entry.first != 0 {
+            return Some(parts_in(store, module_area, entry.first));
+        }
+        if !holds_own(store, module_area, entry.held, handle) {
+            return None;
+        }
+        // What the task holds would come back to itself.
+        Some(parts_in(store, module_area, entry.held))
     }
 }
 

@@ -7,25 +7,38 @@ ghost use Rattle.rh_wimp.specs.Chains.{LiesAt};
 ghost use Rattle.rh_wimp.specs.QueueItems.{LinksAt};
 ghost use Rattle.rh_defs.specs.Bytes.{with_part};
 ghost use Rattle.rh_defs.specs.Messages.{Parcel, encoded};
+ghost use Rattle.rh_defs.specs.RawTasks.{handed_parts};
 
-use crate::decoding::decode;
-use crate::layout::{CODE, MESSAGE};
+use crate::any_body::data_of;
+use crate::bytes::get_word;
+use crate::decoding::decode_any;
+use crate::layout::{CODE, DATA, MESSAGE, SENDER};
 use rh_defs::sizes::LONGEST_MESSAGE;
-use rh_defs::{EventCode, Message};
+use rh_defs::{Data, EventCode, Handle, Message};
 use rh_module::Module;
 use rh_store::Words;
 
-/// The message that lies in a block, by a buffer with room for it.
+/// The message that lies in a block, whatever it links to, by a buffer with room for it.
 fn read_into<S: Words>(store: &S, module_area: Module, block: usize, buffer: &mut [u8]) -> Message
     requires module { IsModule (S.memory store.now) module_area }
     requires room { length buffer.old ≡ LONGEST_MESSAGE }
-    requires lies { (p : Parcel) × LiesAt (S.memory store.now) module_area block p }
-    ensures { (p : Parcel) → LiesAt (S.memory store.now) module_area block p → result ≡ p.message }
+    requires lies { (link : ℕ) × ((p : Parcel) × LinksAt (S.memory store.now) module_area block link p) }
+    ensures { (link : ℕ) (p : Parcel) → LinksAt (S.memory store.now) module_area block link p → result ≡ p.message }
 {
     let length = module_area.read_word(store, block, MESSAGE) as usize;
     let bytes = &mut buffer[..length];
     module_area.read_bytes(store, block, MESSAGE, bytes);
-    decode(bytes).unwrap()
+    decode_any(bytes).unwrap()
+}
+
+/// The message that lies in a block, whatever it links to.
+pub fn read_linked<S: Words>(store: &S, module_area: Module, block: usize) -> Message
+    requires module { IsModule (S.memory store.now) module_area }
+    requires lies { (link : ℕ) × ((p : Parcel) × LinksAt (S.memory store.now) module_area block link p) }
+    ensures { (link : ℕ) (p : Parcel) → LinksAt (S.memory store.now) module_area block link p → result ≡ p.message }
+{
+    let mut buffer = [0u8; LONGEST_MESSAGE];
+    read_into(store, module_area, block, &mut buffer)
 }
 
 /// The message that lies in a block.
@@ -34,8 +47,7 @@ pub fn read_message<S: Words>(store: &S, module_area: Module, block: usize) -> M
     requires lies { (p : Parcel) × LiesAt (S.memory store.now) module_area block p }
     ensures { (p : Parcel) → LiesAt (S.memory store.now) module_area block p → result ≡ p.message }
 {
-    let mut buffer = [0u8; LONGEST_MESSAGE];
-    read_into(store, module_area, block, &mut buffer)
+    read_linked(store, module_area, block)
 }
 
 /// The event code of the message that lies in a block.
@@ -68,4 +80,18 @@ pub fn copy_block<S: Words>(store: &S, module_area: Module, block: usize, to: &m
     let length = module_area.read_word(store, block, MESSAGE) as usize;
     let bytes = &mut to[..length];
     module_area.read_bytes(store, block, MESSAGE, bytes);
+}
+
+/// The sender of the message that lies in a block, whatever it links to, and its data.
+pub fn parts_in<S: Words>(store: &S, module_area: Module, block: usize) -> (Handle, Data)
+    requires module { IsModule (S.memory store.now) module_area }
+    requires lies { (link : ℕ) × ((p : Parcel) × LinksAt (S.memory store.now) module_area block link p) }
+    ensures { (link : ℕ) (p : Parcel) → LinksAt (S.memory store.now) module_area block link p → result
+        ≡ handed_parts p }
+{
+    let mut buffer = [0u8; LONGEST_MESSAGE];
+    copy_block(store, module_area, block, &mut buffer);
+    let end = get_word(&buffer, 0) as usize;
+    let from = get_word(&buffer, SENDER);
+    (Handle(from), data_of(&buffer[DATA..end]))
 }

@@ -1,9 +1,10 @@
 //! Rows about the bytes of messages, and what changed bytes spell.
 
 use crate::answer::shown;
+use crate::bodies::{body, spelled};
 use crate::row::Row;
 use rh_defs::{Body, FileData, Handle, Message, MessageFault, Pathname, Ref};
-use rh_wimp::{decode, encode};
+use rh_wimp::{decode, decode_any, encode, read_body};
 use std::alloc::Global;
 
 /// The bytes of the longest message.
@@ -22,9 +23,28 @@ pub(crate) fn call(alloc: Global, row: &Row<'_>) -> Option<String> {
             alloc,
             decode(spelled(alloc, row.word(1).unwrap_or(""))?.as_slice()),
         ),
+        "decode_any" => any_told(alloc, spelled(alloc, row.word(1).unwrap_or(""))?.as_slice()),
+        "read" => told(
+            alloc,
+            &Message {
+                from: Handle(1),
+                my_ref: Ref(1),
+                your_ref: Ref(0),
+                body: read_body(body(alloc, row, 1)?),
+            },
+        ),
         "long" => named(alloc, row.size(1)?),
         "holed" => shown(alloc, Pathname::new(b"a\0b").is_none()),
         "each_byte_changed" => shown(alloc, each_byte_changed()?),
+        "other" => told(
+            alloc,
+            &Message {
+                from: Handle(row.number(1)?),
+                my_ref: Ref(row.number(2)?),
+                your_ref: Ref(row.number(3)?),
+                body: body(alloc, row, 4)?,
+            },
+        ),
         word => encoded(alloc, &message(word, row)?),
     }
 }
@@ -65,13 +85,17 @@ fn message(word: &str, row: &Row<'_>) -> Option<Message> {
     })
 }
 
-/// The bytes of a message as hexadecimal digits; none where a byte behind them was written, or where they spell
-/// another.
+/// The bytes of a message as hexadecimal digits; none where a byte behind them was written, or where they say another.
 fn encoded(alloc: Global, message: &Message) -> Option<String> {
     let mut out = [255u8; LONGEST];
     let length = encode(message, &mut out);
     let (bytes, behind) = out.split_at(length);
-    if behind.iter().any(|byte| *byte != 255) || decode(bytes).as_ref() != Ok(message) {
+    if behind.iter().any(|byte| *byte != 255) || decode_any(bytes).as_ref() != Ok(message) {
+        return None;
+    }
+    // Only one of the six kinds is spelled by its bytes too.
+    let is_kind = !matches!(message.body, Body::Other(_));
+    if is_kind && decode(bytes).as_ref() != Ok(message) {
         return None;
     }
     let mut digits = String::new(alloc);
@@ -82,14 +106,19 @@ fn encoded(alloc: Global, message: &Message) -> Option<String> {
     Some(digits)
 }
 
-/// The bytes that hexadecimal digits spell.
-fn spelled(alloc: Global, digits: &str) -> Option<Vec<u8>> {
-    let mut bytes = Vec::new(alloc);
-    for at in 0..digits.len() / 2 {
-        let pair = digits.get(2 * at..2 * at + 2)?;
-        bytes.push(u8::from_str_radix(pair, 16).ok()?).ok()?;
+/// A message's action, and its bytes.
+pub(crate) fn told(alloc: Global, message: &Message) -> Option<String> {
+    let action = message.body.action();
+    let digits = encoded(alloc, message)?;
+    format!(in alloc; "{action:?} {digits}").ok()
+}
+
+/// The message of any action that bytes are, or why they are none.
+fn any_told(alloc: Global, bytes: &[u8]) -> Option<String> {
+    match decode_any(bytes) {
+        Ok(message) => told(alloc, &message),
+        Err(fault) => shown(alloc, fault),
     }
-    Some(bytes)
 }
 
 /// The length of a DataLoad with a name of so many letters, and whether its bytes spell it; the name's refusal where it

@@ -4,6 +4,7 @@
 #![tactic(auto)]
 
 mod answer;
+mod bodies;
 mod images;
 mod live;
 mod queues;

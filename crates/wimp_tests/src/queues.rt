@@ -9,6 +9,8 @@ ghost use Rattle.rh_module.specs.declared.module.Module.{Module as SpecModule};
 ghost use Rattle.wimp_tests.specs.TestRuns.{Runs};
 
 use crate::answer::{shown, tell};
+use crate::bodies::body;
+use crate::images::told;
 use crate::live::Live;
 use crate::row::Row;
 use arrayvec::ArrayVec;
@@ -18,7 +20,7 @@ use rh_defs::{
 };
 use rh_module::Module;
 use rh_store::{Store, Words};
-use rh_wimp::{Queue, decode};
+use rh_wimp::{Queue, decode_any};
 use std::alloc::Global;
 use std::io;
 
@@ -58,10 +60,8 @@ pub(crate) fn rows<R: Print + AllocGlobal, S: Store + Drop>(
 }
 
 /// A DataSave of five bytes under a name.
-fn letter(sent: Sent, name: Pathname) -> Letter
-    ensures { result.from ≡ sent.from }
-{
-    let file = FileData {
+fn save(name: Pathname) -> Body {
+    Body::DataSave(FileData {
         window: 0,
         icon: 0,
         x: 0,
@@ -69,13 +69,19 @@ fn letter(sent: Sent, name: Pathname) -> Letter
         size: 5,
         file_type: 0xffd,
         name,
-    };
+    })
+}
+
+/// A letter that says this.
+fn letter(sent: Sent, body: Body) -> Letter
+    ensures { result.from ≡ sent.from }
+{
     Letter {
         code: sent.code,
         from: Handle(sent.from),
         to: Handle(sent.to),
         your_ref: Ref(sent.your_ref),
-        body: Body::DataSave(file),
+        body,
     }
 }
 
@@ -160,9 +166,14 @@ impl<S: Store + Drop> Bench<S> {
     {
         match row.word(0)? {
             "send" => {
-                let name = Pathname::new(b"doc")?;
-                shown(alloc, self.try_send(sent_by(row)?, name)?)
+                let said = save(Pathname::new(b"doc")?);
+                shown(alloc, self.try_send(sent_by(row)?, said)?)
             }
+            "say" => {
+                let said = body(alloc, row, 5)?;
+                shown(alloc, self.try_send(sent_by(row)?, said)?)
+            }
+            "put_down" => shown(alloc, self.put_down(row.number(1)?)?),
             "poll" => self.poll(alloc, row.number(1)?),
             "end" => shown(alloc, self.end(row.number(1)?)?),
             _ => self.ask(alloc, row),
@@ -170,15 +181,39 @@ impl<S: Store + Drop> Bench<S> {
     }
 
     /// Sends a message of a live task.
-    fn try_send(&mut self, sent: Sent, name: Pathname) -> Option<Result<Ref, Refusal>>
+    fn try_send(&mut self, sent: Sent, said: Body) -> Option<Result<Ref, Refusal>>
         requires { Runs (S.memory self.old.store) self.old.module_area self.old.queue self.old.live.handles.items }
         ensures { Runs (S.memory self.new.store) self.new.module_area self.new.queue self.new.live.handles.items }
     {
         if !self.live.is_live(sent.from) {
             return None;
         }
-        let letter = letter(sent, name);
+        let letter = letter(sent, said);
         Some(self.queue.send(&mut self.store, self.module_area, letter))
+    }
+
+    /// Says that what a live task holds is answered.
+    fn put_down(&mut self, task: u32) -> Option<Option<Ref>>
+        requires { Runs (S.memory self.old.store) self.old.module_area self.old.queue self.old.live.handles.items }
+        ensures { Runs (S.memory self.new.store) self.new.module_area self.new.queue self.new.live.handles.items }
+    {
+        if !self.live.is_live(task) {
+            return None;
+        }
+        Some(
+            self.queue
+                .put_down(&mut self.store, self.module_area, Handle(task)),
+        )
+    }
+
+    /// What a live task holds.
+    fn held(&self, task: u32) -> Option<Option<Message>>
+        requires { Runs (S.memory self.now.store) self.now.module_area self.now.queue self.now.live.handles.items }
+    {
+        if !self.live.is_live(task) {
+            return None;
+        }
+        Some(self.queue.held(&self.store, self.module_area, Handle(task)))
     }
 
     /// Polls a live task, and tells what came, and whether it is what was to be seen before.
@@ -222,7 +257,7 @@ impl<S: Store + Drop> Bench<S> {
         let code = self
             .queue
             .peek(&self.store, self.module_area, Handle(task), &mut block)?;
-        Some((code, decode(&block).ok()))
+        Some((code, decode_any(&block).ok()))
     }
 
     /// Ends a live task.
@@ -250,6 +285,10 @@ impl<S: Store + Drop> Bench<S> {
                 let found = self.queue.is_message(&self.store, self.module_area, block);
                 shown(alloc, found)
             }
+            "held" => match self.held(row.number(1)?)? {
+                None => shown(alloc, "nothing"),
+                Some(message) => told(alloc, &message),
+            },
             "live" => self.live_refs(alloc, row.number(1)?),
             "list" => as_text(alloc, &self.listed()),
             _ => None,

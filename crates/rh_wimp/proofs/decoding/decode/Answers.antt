@@ -2,9 +2,9 @@ use Rattle.rh_wimp.proofs.Common.{◌≡◌, refl, sym, ap, ◌∙◌, Some, Non
 use Rattle.rh_defs.specs.MessageImage.{body_for}
 use Rattle.rh_defs.specs.declared.message.MessageFault.TheVariants.{BadAction}
 use Rattle.rh_defs.proofs.MessageImageLaws.{decoded-spells, spelled-decodes}
-use Rattle.rh_wimp.proofs.DecodeLaws.{decoded-body, decoded-short, message-is}
+use Rattle.rh_wimp.proofs.DecodeLaws.{decoded-body, decoded-short}
 use Rattle.rh_wimp.proofs.decoding.decode.Goals as goal
-use Rattle.rh_wimp.proofs.decoding.decode.Goals.{After-from_residual, After-get_word-4}
+use Rattle.rh_wimp.proofs.decoding.decode.Goals.{After-from_residual, After-message_with}
 
 pub returns-then-not-has_length-clause-answer : goal.returns-then-not-has_length-clause-answer
 returns-then-not-has_length-clause-answer c = sym (decoded-short c.args.bytes.now (sym c.has_length.ensures ∙ c.if-not-has_length.true))
@@ -29,12 +29,10 @@ returns-in_err-body-clause-answer c = failed c
 pub returns-in_err-body-clause-read : goal.returns-in_err-body-clause-read
 returns-in_err-body-clause-read c = λ m s. failed c ∙ spelled-decodes c.args.bytes.now m s
 
-read : (c : After-get_word-4) → ◌≡◌ {A = Result Message MessageFault} (Ok
-    (record { from = c.get_word-2.result; my_ref = c.get_word-3.result; your_ref = c.get_word-4.result; body = c.in_ok-body.body })) (decoded
-    c.args.bytes.now)
+read : (c : After-message_with) → ◌≡◌ {A = Result Message MessageFault} (Ok c.message_with.result) (decoded c.args.bytes.now)
 read c =
     let b = c.args.bytes.now in
-    message-is b c.get_word-2.result c.get_word-3.result c.get_word-4.result c.in_ok-body.body c.get_word-2.ensures c.get_word-3.ensures c.get_word-4.ensures
+    ap (λ m. Ok m) c.message_with.ensures
     ∙ sym (decoded-body b (Some c.in-Some.action) (Ok c.in_ok-body.body) (sym c.has_length.ensures ∙ c.if-not-has_length.false)
     (ap action_at (sym c.get_word.ensures) ∙ sym c.from_number.ensures ∙ c.in-Some.is)
     (ap (λ end. body_for b end (Some c.in-Some.action)) (sym c.get_word-end.ensures) ∙ sym c.decode_body.ensures ∙ c.in_ok-body.was))

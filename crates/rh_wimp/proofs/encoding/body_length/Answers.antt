@@ -1,7 +1,7 @@
-use Rattle.rh_wimp.proofs.Common.{length, ap, arith, body_bytes, DataSave, DataSaveAck, DataLoad, DataLoadAck, RamFetch, RamTransmit}
+use Rattle.rh_wimp.proofs.Common.{length, ap, arith, body_bytes, DataSave, DataSaveAck, DataLoad, DataLoadAck, RamFetch, RamTransmit, Other}
 use Rattle.rh_defs.proofs.MessageLaws.{length-body}
 use Rattle.rh_wimp.proofs.encoding.body_length.Goals as goal
-use Rattle.rh_wimp.proofs.encoding.body_length.Goals.{in-DataSave, in-DataSaveAck, in-DataLoad, in-DataLoadAck, in-RamFetch, in-RamTransmit}
+use Rattle.rh_wimp.proofs.encoding.body_length.Goals.{in-DataSave, in-DataSaveAck, in-DataLoad, in-DataLoadAck, in-RamFetch, in-RamTransmit, in-Other}
 
 pub returns-clause-length : goal.returns-clause-length
 returns-clause-length c =
@@ -18,4 +18,6 @@ returns-clause-length c =
           ap (λ b. length (body_bytes b)) w.in-RamFetch.is in omega (arith, w.result-is, length-body (RamFetch w.in-RamFetch.buffer w.in-RamFetch.length))
       | in-RamTransmit w ↦ let e = ap (λ b. length (body_bytes b)) w.in-RamTransmit.is in
           omega (arith, w.result-is, length-body (RamTransmit w.in-RamTransmit.buffer w.in-RamTransmit.written))
+      | in-Other w ↦ let e = ap (λ b. length (body_bytes b)) w.in-Other.is in
+          omega (arith, w.result-is, ap length w.as_slice.ensures.value, ap length w.data.ensures.value, length-body (Other w.in-Other.other))
     ]

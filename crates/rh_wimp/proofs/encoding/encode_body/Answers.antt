@@ -1,10 +1,10 @@
 use Rattle.rh_wimp.proofs.Common.{length, sym, ap, ◌∙◌, arith, append-nil, with_part, action_number, body_bytes, words, data_words, DataSave, DataSaveAck}
 use Rattle.rh_wimp.proofs.Common.{DataLoad}
-use Rattle.rh_wimp.proofs.Common.{DataLoadAck, RamFetch, RamTransmit}
+use Rattle.rh_wimp.proofs.Common.{DataLoadAck, RamFetch, RamTransmit, Other}
 use Rattle.rh_defs.proofs.MessageLaws.{length-body}
 use Rattle.rh_wimp.proofs.EncodeLaws.{body-put}
 use Rattle.rh_wimp.proofs.encoding.encode_body.Goals as goal
-use Rattle.rh_wimp.proofs.encoding.encode_body.Goals.{in-DataSave, in-DataSaveAck, in-DataLoad, in-DataLoadAck, in-RamFetch, in-RamTransmit}
+use Rattle.rh_wimp.proofs.encoding.encode_body.Goals.{in-DataSave, in-DataSaveAck, in-DataLoad, in-DataLoadAck, in-RamFetch, in-RamTransmit, in-Other}
 
 pub returns-clause-bytes : goal.returns-clause-bytes
 returns-clause-bytes c =
@@ -29,6 +29,9 @@ returns-clause-bytes c =
           c.put_word.new.out w.encode_pair-in-RamTransmit.new.out c.number.result w.in-RamTransmit.is n c.put_word.ensures
           (w.encode_pair-in-RamTransmit.ensures.bytes ∙ ap (with_part c.put_word.new.out 20)
           (sym (append-nil (words (data_words (RamTransmit w.in-RamTransmit.buffer w.in-RamTransmit.written))))))
+      | in-Other w ↦ w.out-is ∙ body-put c.args.body.now (Other w.in-Other.other) c.args.out.now c.put_word.new.out w.encode_data.new.out c.number.result
+          w.in-Other.is n c.put_word.ensures
+          (w.encode_data.ensures.bytes ∙ ap (with_part c.put_word.new.out 20) (w.as_slice.ensures.value ∙ w.data.ensures.value))
     ]
 
 pub returns-clause-length : goal.returns-clause-length
@@ -46,4 +49,13 @@ returns-clause-length c =
           omega (arith, w.result-is, w.encode_pair.ensures.length, length-body (RamFetch w.in-RamFetch.buffer w.in-RamFetch.length))
       | in-RamTransmit w ↦ let e = ap (λ b. length (body_bytes b)) w.in-RamTransmit.is in
           omega (arith, w.result-is, w.encode_pair-in-RamTransmit.ensures.length, length-body (RamTransmit w.in-RamTransmit.buffer w.in-RamTransmit.written))
+      | in-Other w ↦ let e = ap (λ b. length (body_bytes b)) w.in-Other.is in
+          omega (
+            arith,
+            w.result-is,
+            w.encode_data.ensures.length,
+            ap length w.as_slice.ensures.value,
+            ap length w.data.ensures.value,
+            length-body (Other w.in-Other.other),
+          )
     ]

@@ -42,7 +42,7 @@ pub read_word-block-requires-clause-block : goal.read_word-block-requires-clause
 read_word-block-requires-clause-block g c =
     let r = c.requires.chain in
     let w = here g (goal.at.read_word-block-requires-clause-block g c).Else-block-eq0 r.0 r.1.0 r.1.1 r.1.2 in
-    has-less c.loop-turn.block 36 4 (module_heap_in (g.S.Words.memory c.args.store.now) c.args.module_area) (omega arith) (links-has w.links)
+    has-less c.loop-turn.block 28 4 (module_heap_in (g.S.Words.memory c.args.store.now) c.args.module_area) (omega arith) (links-has w.links)
 
 pub loop-turn-preserved : goal.loop-turn-preserved
 loop-turn-preserved g c = λ ps e l few.

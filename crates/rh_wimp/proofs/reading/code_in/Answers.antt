@@ -10,7 +10,7 @@ use Rattle.rh_wimp.proofs.reading.code_in.Given as given
 pub read_word-requires-clause-block : goal.read_word-requires-clause-block
 read_word-requires-clause-block g c =
     let m = g.S.Words.memory c.args.store.now in
-    has-less c.args.block 36 8 (module_heap_in m c.args.module_area) (omega arith) (links-has c.requires.lies.1.1)
+    has-less c.args.block 28 8 (module_heap_in m c.args.module_area) (omega arith) (links-has c.requires.lies.1.1)
 
 known : (code : EventCode) → code_at (code_number code) ≡ Some code
 known User = refl

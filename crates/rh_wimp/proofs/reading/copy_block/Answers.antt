@@ -9,7 +9,7 @@ use Rattle.rh_wimp.proofs.reading.copy_block.Given as given
 pub read_word-length-requires-clause-block : goal.read_word-length-requires-clause-block
 read_word-length-requires-clause-block g c =
     let m = g.S.Words.memory c.args.store.now in
-    has-less c.args.block 36 12 (module_heap_in m c.args.module_area) (omega arith) (links-has c.requires.lies.1.1)
+    has-less c.args.block 28 12 (module_heap_in m c.args.module_area) (omega arith) (links-has c.requires.lies.1.1)
 
 -- the length that is read
 measured : (g : given.Over) (c : After-read_word-length g) (link : ℕ) (p : Parcel) → LinksAt

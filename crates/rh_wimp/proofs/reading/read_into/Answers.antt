@@ -1,10 +1,11 @@
 use Rattle.rh_wimp.proofs.Common.{◌≡◌, ℕ, ◌+◌, ◌≤◌, List, length, take, refl, sym, ap, subst, ◌∙◌, arith, length-take, Some, Ok, Result, LONGEST_MESSAGE}
-use Rattle.rh_wimp.proofs.Common.{part, module_heap_in, block_bytes, LiesAt, Parcel, encoded_length, padded, decoded, MessageFault, Message, has-less}
+use Rattle.rh_wimp.proofs.Common.{part, module_heap_in, block_bytes, LinksAt, Parcel, encoded_length, padded, MessageFault, Message, has-less}
 use Rattle.rh_wimp.proofs.Common.{encoded-most}
 use Rattle.rh_wimp.proofs.Common.{room_enough, length_read, length-padded, message_read}
 use Rattle.std.specs.Result.{IsOk}
-use Rattle.rh_defs.proofs.MessageImageLaws.{decoded-encoded}
-use Rattle.rh_wimp.proofs.PollLaws.{lies-has, lies-bytes}
+use Rattle.rh_defs.specs.AnyMessage.{any_decoded}
+use Rattle.rh_defs.proofs.AnyMessageLaws.{any-encoded}
+use Rattle.rh_wimp.proofs.ItemLaws.{links-bytes, links-has}
 use Rattle.rh_wimp.proofs.reading.read_into.Goals as goal
 use Rattle.rh_wimp.proofs.reading.read_into.Goals.{After-read_word-length}
 use Rattle.rh_wimp.proofs.reading.read_into.Given as given
@@ -12,23 +13,22 @@ use Rattle.rh_wimp.proofs.reading.read_into.Given as given
 pub read_word-length-requires-clause-block : goal.read_word-length-requires-clause-block
 read_word-length-requires-clause-block g c =
     let m = g.S.Words.memory c.args.store.now in
-    let l = c.requires.lies in
-    has-less c.args.block 24 12 (module_heap_in m c.args.module_area) (omega arith) (lies-has m c.args.module_area c.args.block l.0 l.1)
+    has-less c.args.block 28 12 (module_heap_in m c.args.module_area) (omega arith) (links-has c.requires.lies.1.1)
 
 -- the length that is read
-measured : (g : given.Over) (c : After-read_word-length g) (p : Parcel) → LiesAt (g.S.Words.memory c.args.store.now) c.args.module_area c.args.block p
+measured : (g : given.Over) (c : After-read_word-length g) (link : ℕ) (p : Parcel)
+    → LinksAt (g.S.Words.memory c.args.store.now) c.args.module_area c.args.block link p
     → (c.read_word-length.result ≡ encoded_length p.message) × (c.read_word-length.result ≤ LONGEST_MESSAGE)
-measured g c p w =
+measured g c link p w =
     let k = encoded-most p.message w.lies.fits.name in
     let most = k.1 in
-    let e = c.read_word-length.ensures (padded 0 p) (lies-bytes (g.S.Words.memory c.args.store.now) c.args.module_area c.args.block p w)
-    ∙ length_read 0 p (omega arith) w.lies.fits in
+    let e = c.read_word-length.ensures (padded link p) (links-bytes w) ∙ length_read link p w.small w.lies.fits in
     (e, omega arith)
 
 pub slice_bounds-bytes-end : goal.slice_bounds-bytes-end
 slice_bounds-bytes-end g c =
     let l = c.requires.lies in
-    let m = measured g (goal.at.slice_bounds-bytes-end g c).After-read_word-length l.0 l.1 in
+    let m = measured g (goal.at.slice_bounds-bytes-end g c).After-read_word-length l.0 l.1.0 l.1.1 in
     let few = m.1 in
     let n = c.requires.room in
     omega arith
@@ -36,7 +36,7 @@ slice_bounds-bytes-end g c =
 pub slice_bounds-bytes-end-2 : goal.slice_bounds-bytes-end-2
 slice_bounds-bytes-end-2 g c =
     let l = c.requires.lies in
-    let m = measured g (goal.at.slice_bounds-bytes-end-2 g c).After-read_word-length l.0 l.1 in
+    let m = measured g (goal.at.slice_bounds-bytes-end-2 g c).After-read_word-length l.0 l.1.0 l.1.1 in
     let few = m.1 in
     let n = c.requires.room in
     let t = length-take c.read_word-length.result c.args.buffer.now in
@@ -45,37 +45,42 @@ slice_bounds-bytes-end-2 g c =
 pub read_bytes-requires-clause-block : goal.read_bytes-requires-clause-block
 read_bytes-requires-clause-block g c =
     let l = c.requires.lies in
-    let m = measured g (goal.at.read_bytes-requires-clause-block g c).After-read_word-length l.0 l.1 in
+    let m = measured g (goal.at.read_bytes-requires-clause-block g c).After-read_word-length l.0 l.1.0 l.1.1 in
     let is = m.0 in
     let few = m.1 in
     let t = length-take c.read_word-length.result c.args.buffer.now in
-    let b = lies-bytes (g.S.Words.memory c.args.store.now) c.args.module_area c.args.block l.0 l.1 in
-    record { bytes = padded 0 l.0; found = b; room = omega (arith, length-padded 0 l.0, room_enough (8 + encoded_length l.0.message)) }
+    let p : Parcel = l.1.0 in
+    record {
+      bytes = padded l.0 p;
+      found = links-bytes l.1.1;
+      room = omega (arith, length-padded l.0 p, room_enough (8 + encoded_length p.message));
+    }
 
 -- what is decoded
-answered : (g : given.Over) (c : After-read_word-length g) (to : List ℕ) (result : Result Message MessageFault) (p : Parcel)
-    → LiesAt (g.S.Words.memory c.args.store.now) c.args.module_area c.args.block p
+answered : (g : given.Over) (c : After-read_word-length g) (to : List ℕ) (result : Result Message MessageFault) (link : ℕ) (p : Parcel)
+    → LinksAt (g.S.Words.memory c.args.store.now) c.args.module_area c.args.block link p
     → ((bytes : List ℕ) → block_bytes c.args.block (module_heap_in (g.S.Words.memory c.args.store.now) c.args.module_area) ≡ Some bytes
-    → to ≡ part bytes 8 (length (take c.read_word-length.result c.args.buffer.now))) → result ≡ decoded to → result ≡ Ok p.message
-answered g c to result p w r e =
-    let m = measured g c p w in
+    → to ≡ part bytes 8 (length (take c.read_word-length.result c.args.buffer.now))) → result ≡ any_decoded to → result ≡ Ok p.message
+answered g c to result link p w r e =
+    let m = measured g c link p w in
     let is = m.0 in
     let few = m.1 in
     let n = c.requires.room in
     let t = length-take c.read_word-length.result c.args.buffer.now in
-    let b = r (padded 0 p) (lies-bytes (g.S.Words.memory c.args.store.now) c.args.module_area c.args.block p w)
-    ∙ message_read 0 p (length (take c.read_word-length.result c.args.buffer.now)) (omega arith) in
-    e ∙ ap decoded b ∙ decoded-encoded p.message w.lies.fits
+    let b = r (padded link p) (links-bytes w)
+    ∙ message_read link p (length (take c.read_word-length.result c.args.buffer.now)) (omega arith) in
+    e ∙ ap any_decoded b ∙ any-encoded p.message w.lies.fits
 
 pub unwrap-requires : goal.unwrap-requires
 unwrap-requires g c =
     let l = c.requires.lies in
-    subst IsOk (sym (answered g (goal.at.unwrap-requires g c).After-read_word-length c.read_bytes.new.to c.decode.result l.0 l.1 c.read_bytes.ensures
-    c.decode.ensures.answer)) refl
+    subst IsOk (sym (answered g
+    (goal.at.unwrap-requires g c).After-read_word-length c.read_bytes.new.to c.decode_any.result l.0 l.1.0 l.1.1 c.read_bytes.ensures
+    c.decode_any.ensures)) refl
 
 pub returns : goal.returns
-returns g c = λ p w.
+returns g c = λ link p w.
     let e : ◌≡◌ {A = Result Message MessageFault} (Ok c.unwrap.result) (Ok p.message) =
-    sym c.unwrap.ensures ∙ answered g (goal.at.returns g c).After-read_word-length c.read_bytes.new.to c.decode.result p w c.read_bytes.ensures
-    c.decode.ensures.answer in
+    sym c.unwrap.ensures ∙ answered g (goal.at.returns g c).After-read_word-length c.read_bytes.new.to c.decode_any.result link p w c.read_bytes.ensures
+    c.decode_any.ensures in
     cc
