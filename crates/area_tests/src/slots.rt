@@ -12,7 +12,7 @@ use arrayvec::ArrayVec;
 use rh_defs::sizes::{ANCHORS, SEGMENTS_AT_ONCE};
 use rh_defs::{Anchor, BlockItem};
 use rh_heap::Segment;
-use rh_slot::{Slot, free_anchor, put_from, write_from};
+use rh_slot::{Slot, free_anchor, put_from, write_at, write_from};
 use rh_store::{Paged, Store, Words};
 use std::alloc::Global;
 use std::io;
@@ -48,6 +48,7 @@ fn call<S: Store>(alloc: Global, store: &mut S, slot: &mut Slot, row: &Row<'_>) 
         "claim" | "release" | "resize" => change_heap(alloc, store, *slot, row),
         "alloc" | "free" | "extend" | "mid" | "put" => change_flex(alloc, store, *slot, row),
         "put_words" | "write_word" => change_from(alloc, store, *slot, row),
+        "write" => write(alloc, store, *slot, row),
         word => ask(alloc, store, *slot, word, row),
     }
 }
@@ -111,12 +112,26 @@ fn change_from<S: Store>(alloc: Global, store: &mut S, slot: Slot, row: &Row<'_>
     shown(alloc, true)
 }
 
+/// Writes bytes at an address, where a block has them all.
+fn write<S: Store>(alloc: Global, store: &mut S, slot: Slot, row: &Row<'_>) -> Option<String>
+    requires { IsSlotIn (S.memory store.old) slot }
+    ensures { IsSlotIn (S.memory store.new) slot }
+{
+    let (address, from) = (row.size(1)?, row.bytes(2)?);
+    if !slot.inside(store, address, from.len()) {
+        return None;
+    }
+    write_at(store, slot, address, from);
+    shown(alloc, true)
+}
+
 /// What a question about the C heap answers.
 fn ask<S: Store>(alloc: Global, store: &S, slot: Slot, word: &str, row: &Row<'_>) -> Option<String>
     requires { IsSlotIn (S.memory store.now) slot }
 {
     match word {
         "take_pages" => shown(alloc, slot.take_pages(store, row.number(1)?)),
+        "can_alloc" => shown(alloc, slot.can_alloc(store, row.anchor(1)?, row.number(2)?)),
         "block_size" => shown(alloc, slot.block_size(store, row.size(1)?)),
         "segment" => shown(alloc, slot.segment(store, row.size(1)?)),
         "segments" => shown(alloc, segments(store, slot, row.size(1)?)),

@@ -11,7 +11,7 @@ use Rattle.rh_defs.specs.SlotImage.{SpellsSlot}
 use Rattle.rh_slot.specs.SlotArea.{IsSlotIn, slot_in}
 use Rattle.rh_slot.specs.SlotCalls.{LeavesSlotIn}
 use Rattle.rh_slot.specs.declared.slot.Slot.{Slot}
-use Rattle.rh_slot.proofs.ReachLaws.{Reached, Within, reached, within, reached_spells, reached_budging}
+use Rattle.rh_slot.proofs.ReachLaws.{Reached, Within, reached, within, landed_spells, landed_budging}
 use Rattle.rh_slot.proofs.WriteLaws.{copied}
 
 either_holds : (a b : Bool) → b ≡ true → (a || b) ≡ true
@@ -35,7 +35,7 @@ module _ (x : ℕ) (xs : List ℕ) (s : plain.Slot) where
 
   -- where a slot's block holds the bytes, they lie in those of the slot
   pub write_within : (b : List ℕ) → SpellsSlot b s → holds x (length xs) s ≡ true → Within b x (length xs)
-  write_within b k e = within b s x (length xs) xs k (reach b k e)
+  write_within b k e = within b s x xs k (reach b k e)
 
 -- bytes are put into a slot's area, where a block holds them
 pub write_leaves : (m n : Memory) (slot : Slot) (x : ℕ) (xs : List ℕ) → IsSlotIn m slot
@@ -45,5 +45,5 @@ pub write_leaves : (m n : Memory) (slot : Slot) (x : ℕ) (xs : List ℕ) → Is
 write_leaves m n slot x xs k e is =
     let s = slot_in m slot in
     let r = reach x xs s (bytes m slot.area.0) k.spells e in
-    copied m n slot _ _ (x - 32768) xs (write_granted x xs s e) (reached_budging s x (length xs) xs r) is
-    (reached_spells (bytes m slot.area.0) s x (length xs) xs k.spells r)
+    copied m n slot _ _ (x - 32768) xs (write_granted x xs s e) (landed_budging s x xs r) is
+    (landed_spells (bytes m slot.area.0) s x xs k.spells r)

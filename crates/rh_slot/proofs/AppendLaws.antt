@@ -1,5 +1,5 @@
 -- A block gets bytes at its end.
-use Rattle.rh_slot.proofs.Common.{◌≡◌, ℕ, ◌+◌, ◌-◌, ◌/◌, ◌*◌, ◌<◌, ◌≤◌, ◌≢◌, ◌⊎◌, inl, inr, List, [], ◌∷◌, ◌++◌, length, take, in_above, Shifted, FoundAt}
+use Rattle.rh_slot.proofs.Common.{◌≡◌, ℕ, ◌+◌, ◌-◌, ◌/◌, ◌*◌, ◌<◌, ◌≤◌, ◌≢◌, ◌⊎◌, inl, inr, List, [], ◌++◌, length, take, in_above, Shifted, FoundAt}
 use Rattle.rh_slot.proofs.Common.{drop, ltb, refl, sym, ap, subst, ◌∙◌, arith, length-replicate, take_all, append-nil, cases_eq, cases_lt, Ok, Err, unwrap_or}
 use Rattle.rh_slot.proofs.Common.{PAGE, NoBlock, NoRoom, word, part, with_part, SameIn, SameOutside, Granted, ◌>>=◌, refuse_if, found_or, fitted, Memory}
 use Rattle.rh_slot.proofs.Common.{OnlyArea}

@@ -318,6 +318,11 @@ pages_more b s n t w l et ew =
     let top : t + w ≡ slot_length s + flex_weight n = omega arith in
     rw (q, top) refl
 
+-- the same of its two ends
+pub pages_wanted : (s : Slot) (n t w a b : ℕ) → t ≡ slot_length s → w ≡ flex_weight n → a ≡ pages_for (t + w) → b ≡ pages_for t
+    → a - b ≡ pages_for (slot_length s + flex_weight n) - slot_pages s
+pages_wanted s n t w a b et ew ea eb = rw (ea, eb, et, ew) refl
+
 -- whether pages were refused, by what the slot wants
 pub has_room : {P : Type 0} (free x y : ℕ) → (P ↔ (free < x)) → (P → ⊥) → x ≡ y → y ≤ free
 has_room free x y d n e = elim (cases_lt free x) [ inl l ↦ absurd (n (d.1 l)) | inr l ↦ omega arith ]

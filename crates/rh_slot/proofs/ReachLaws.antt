@@ -10,7 +10,7 @@ use Rattle.rh_defs.specs.Pieces.{first_at, with_here, is_inside}
 use Rattle.rh_defs.specs.Inner.NonePassing.{NonePass}
 use Rattle.rh_defs.specs.Heap.{IsTidy, is_around, block_around}
 use Rattle.rh_defs.specs.HeapParts.{HasRoom, last_link}
-use Rattle.rh_defs.specs.Places.{with_heap_bytes, roomy_in, buffer_at, written_in, written_around, written_heap}
+use Rattle.rh_defs.specs.Places.{with_heap_bytes, roomy_in, buffer_at, written_in, written_around, written_heap, written_held}
 use Rattle.rh_defs.specs.Slot.{flex_around, holds}
 use Rattle.rh_defs.specs.Blocks.{blank, SameShape}
 use Rattle.rh_defs.proofs.BlockLaws.{part-written}
@@ -94,6 +94,9 @@ Spells-put b at h y offset q cut xs s c h1 eq =
 
 le_from : (x y : ℕ) → nat_le x y ≡ true → x ≤ y
 le_from x y h = grind (arith, nat_tests)
+
+lt_from : (x y : ℕ) → nat_le y x ≡ false → x < y
+lt_from x y h = grind (arith, nat_tests)
 
 is_inside_from : (x n a m : ℕ) → is_inside x n a m ≡ true → (a ≤ x) × (x + n ≤ a + m)
 is_inside_from x n a m e = grind (arith, nat_tests)
@@ -190,13 +193,30 @@ holder_of_fewer s x n k few fits (heap_holder cut offset e f c q h) =
     ∙ first_at-found size_of (is_around y k) 16 cut.before cut.here cut.after (heap_below y k 16 cut.before (omega arith)) passes in
     heap_holder cut offset none found c q (omega arith)
 
--- the bytes that are written at an address go into one block
-pub data Reached (s : Slot) (x room : ℕ) (xs : List ℕ) : Type 0 where
+-- bytes that are written at an address go into one block
+pub data Lands (s : Slot) (x : ℕ) (xs : List ℕ) (new : Slot) : Type 0 where
   in_heap : (cut : Split Segment) (y offset : ℕ) → HeapCut s.heap y cut → x ≡ heap_start + y + offset → offset + length xs ≤ length (bytes_of cut.here)
-      → written_in x xs (buffer_at x room s) s ≡ with_heap_bytes cut offset xs s → Reached s x room xs
+      → new ≡ with_heap_bytes cut offset xs s → Lands s x xs new
   in_flex : (cut : Split Flex) (offset : ℕ) → s.blocks ≡ cut.before ++ cut.here ∷ cut.after → x ≡ flex_address s cut.before + offset
       → offset + length xs ≤ length cut.here.bytes
-      → written_in x xs (buffer_at x room s) s ≡ with_block_bytes cut (written cut.here.bytes offset xs) s → Reached s x room xs
+      → new ≡ with_block_bytes cut (written cut.here.bytes offset xs) s → Lands s x xs new
+
+-- they go into the block of the C heap there, which has so much room, or into any block that holds them
+abbrev pub Reached : Slot → ℕ → ℕ → List ℕ → Type 0
+Reached s x room xs = Lands s x xs (written_in x xs (buffer_at x room s) s)
+
+-- they go into the block that holds them
+in_held : (s : Slot) (x : ℕ) (xs : List ℕ) → Holder s x (length xs) → Lands s x xs (written_held x xs s)
+in_held s x xs (flex_holder cut offset f is q h) =
+    let same : x - flex_address s cut.before ≡ offset = omega arith in
+    in_flex cut offset is q h (ap (λ o. written_around x xs o s) f ∙ ap (λ k. with_block_bytes cut (written cut.here.bytes k xs) s) same)
+in_held s x xs (heap_holder cut offset f g c q h) =
+    let same : x - (heap_start + (16 + total size_of cut.before) + 4) ≡ offset = omega arith in
+    in_heap cut (16 + total size_of cut.before + 4) offset c q h
+    (ap (λ o. written_around x xs o s) f ∙ ap (λ o. written_heap x xs o s) g ∙ ap (λ k. with_heap_bytes cut k xs s) same)
+
+pub held_lands : (s : Slot) (x : ℕ) (xs : List ℕ) → holds x (length xs) s ≡ true → Lands s x xs (written_held x xs s)
+held_lands s x xs q = in_held s x xs (holder s x (length xs) q)
 
 roomy : (n : ℕ) (o : Option (Split Segment)) (cut : Split Segment) → roomy_in n o ≡ Some cut → (o ≡ Some cut) × (n ≤ length (bytes_of cut.here))
 roomy n None cut e = absurd cc
@@ -215,14 +235,7 @@ module _ (s : Slot) (x room : ℕ) (xs : List ℕ) (few : length xs ≤ room) (f
       in_heap cut (x - heap_start) 0 c (omega arith) (let most = r.1 in omega arith) (ap (λ o. written_in x xs o s) e)
 
   in_holder : buffer_at x room s ≡ None → Holder s x (length xs) → Reached s x room xs
-  in_holder e (flex_holder cut offset f is q h) =
-      let same : x - flex_address s cut.before ≡ offset = omega arith in
-      in_flex cut offset is q h (ap (λ o. written_in x xs o s) e ∙ ap (λ o. written_around x xs o s) f
-      ∙ ap (λ k. with_block_bytes cut (written cut.here.bytes k xs) s) same)
-  in_holder e (heap_holder cut offset f g c q h) =
-      let same : x - (heap_start + (16 + total size_of cut.before) + 4) ≡ offset = omega arith in
-      in_heap cut (16 + total size_of cut.before + 4) offset c q h
-      (ap (λ o. written_in x xs o s) e ∙ ap (λ o. written_around x xs o s) f ∙ ap (λ o. written_heap x xs o s) g ∙ ap (λ k. with_heap_bytes cut k xs s) same)
+  in_holder e q = subst (Lands s x xs) (sym (ap (λ o. written_in x xs o s) e)) (in_held s x xs q)
 
   in_any : (o : Option (Split Segment)) → buffer_at x room s ≡ o → (is_some o || holds x room s) ≡ true → Reached s x room xs
   in_any (Some cut) e q = in_buffer cut e
@@ -236,6 +249,57 @@ pub reached_part : (s : Slot) (x room n : ℕ) (b : List ℕ) (place : ℕ) (c :
     → (is_some (buffer_at x room s) || holds x room s) ≡ true → Reached s x room (part b place n)
 reached_part s x room n b place c k few q = let l = length-part b place n in reached s x room (part b place n) (omega arith) k.words.heap.heap.fits q
 
+-- where a block holds them, both are one
+pub written_alike : (s : Slot) (x : ℕ) (xs : List ℕ) → base s.heap ≤ s.heap.end → written_in x xs (buffer_at x (length xs) s) s ≡ written_held x xs s
+written_alike s x xs fits = go (buffer_at x (length xs) s) refl
+  where
+    go : (o : Option (Split Segment)) → buffer_at x (length xs) s ≡ o → written_in x xs o s ≡ written_held x xs s
+    go None e = refl
+    go (Some cut) e =
+        let n = length xs in
+        let y = x - heap_start in
+        let r = roomy n (heap_block_at x s) cut e in
+        let most = r.1 in
+        let c = heap_cut s.heap y cut r.0 in
+        let stands = c.stands in
+        let inside = c.inside in
+        let none : flex_around x n s ≡ None = first_at-none weight (is_at x n) (flex_start s) s.blocks (flex_above x n (flex_start s) s.blocks (omega arith)) in
+        let passes : is_around y n (16 + total size_of cut.before) cut.here ≡ true =
+        ap (is_around y n (16 + total size_of cut.before)) c.here
+        ∙ is_inside_yes y n (16 + total size_of cut.before + 4) (length (bytes_of cut.here)) (omega arith) (omega arith) in
+        let found : block_around y n s.heap ≡ Some cut =
+        ap (first_at size_of (is_around y n) 16) (c.is ∙ ap (λ g. cut.before ++ g ∷ cut.after) (sym c.here))
+        ∙ first_at-found size_of (is_around y n) 16 cut.before cut.here cut.after (heap_below y n 16 cut.before (omega arith)) passes in
+        let same : x - (heap_start + (16 + total size_of cut.before) + 4) ≡ 0 = omega arith in
+        sym (ap (λ o. written_around x xs o s) none ∙ ap (λ o. written_heap x xs o s) found ∙ ap (λ k. with_heap_bytes cut k xs s) same)
+
+-- no segment lies around the heap's first byte
+heap_above : (n p : ℕ) (ss : List Segment) → NonePass size_of (is_around 0 n) p ss
+heap_above n p [] = tt
+heap_above n p (Used bs ∷ ss) =
+    (ap (λ t. t && nat_le (0 + n) (p + 4 + length bs)) (leb_no (p + 4) 0 (omega arith)), heap_above n (p + (4 + length bs)) ss)
+heap_above n p (Hole m ∷ ss) = (refl, heap_above n (p + m) ss)
+
+-- where no block holds them, nothing is written
+pub written_nowhere : (s : Slot) (x : ℕ) (xs : List ℕ) → holds x (length xs) s ≡ false → written_held x xs s ≡ s
+written_nowhere s x xs = in_flexes (flex_around x (length xs) s) refl
+  where
+    below : (t : Bool) → nat_le heap_start x ≡ t → (o : Option (Split Segment)) → block_around (x - heap_start) (length xs) s.heap ≡ o
+        → (t && is_some o) ≡ false → written_heap x xs o s ≡ s
+    below t l None g q = refl
+    below true l (Some cut) g q = absurd cc
+    below false l (Some cut) g q =
+        let low : x - heap_start ≡ 0 = omega (arith, lt_from x heap_start l) in
+        let none : block_around (x - heap_start) (length xs) s.heap ≡ None =
+        ap (λ y. block_around y (length xs) s.heap) low
+        ∙ first_at-none size_of (is_around 0 (length xs)) 16 s.heap.segments (heap_above (length xs) 16 s.heap.segments) in
+        absurd (let bad : None ≡ Some cut = sym none ∙ g in cc)
+
+    in_flexes : (o : Option (Split Flex)) → flex_around x (length xs) s ≡ o
+        → (is_some o || (nat_le heap_start x && is_some (block_around (x - heap_start) (length xs) s.heap))) ≡ false → written_around x xs o s ≡ s
+    in_flexes None f q = below (nat_le heap_start x) refl (block_around (x - heap_start) (length xs) s.heap) refl q
+    in_flexes (Some cut) f q = absurd cc
+
 -- ---- where they lie, and what the area's bytes spell then
 
 -- the place of the bytes in the area
@@ -243,21 +307,21 @@ pub record Within (b : List ℕ) (x n : ℕ) : Type 0 where
   pub low : heap_start ≤ x
   pub high : x - 32768 + n ≤ length b
 
-pub within : (b : List ℕ) (s : Slot) (x room : ℕ) (xs : List ℕ) → SpellsSlot b s → Reached s x room xs → Within b x (length xs)
-within b s x room xs k (in_heap cut y offset c e h q) =
+pub within : (b : List ℕ) (s : Slot) (x : ℕ) (xs : List ℕ) {new : Slot} → SpellsSlot b s → Lands s x xs new → Within b x (length xs)
+within b s x xs k (in_heap cut y offset c e h q) =
     let inside = c.inside in
     let fits = k.words.heap.heap.fits in
     let most = k.words.within in
     record { low = omega arith; high = omega arith }
-within b s x room xs k (in_flex cut offset is e h q) =
+within b s x xs k (in_flex cut offset is e h q) =
     let f = cut_found s cut.here.anchor cut is refl (HaveAnchors-cut cut.before cut.here cut.after (subst HaveAnchors is k.words.anchors)).before in
     let inside = f.inside in
     let most = k.words.within in
     record { low = omega arith; high = omega arith }
 
-pub reached_spells : (b : List ℕ) (s : Slot) (x room : ℕ) (xs : List ℕ) → SpellsSlot b s → Reached s x room xs
-    → SpellsSlot (with_part b (x - 32768) xs) (written_in x xs (buffer_at x room s) s)
-reached_spells b s x room xs k (in_heap cut y offset c e h q) =
+pub landed_spells : (b : List ℕ) (s : Slot) (x : ℕ) (xs : List ℕ) {new : Slot} → SpellsSlot b s → Lands s x xs new
+    → SpellsSlot (with_part b (x - 32768) xs) new
+landed_spells b s x xs k (in_heap cut y offset c e h q) =
     let inside = c.inside in
     let stands = c.stands in
     let fits = k.words.heap.heap.fits in
@@ -265,7 +329,7 @@ reached_spells b s x room xs k (in_heap cut y offset c e h q) =
     (SpellsSlot-with_heap b (with_part b (x - 32768) xs) s (record s.heap { segments = with_here cut (Used (written (bytes_of cut.here) offset xs)) }) k
     (wider (put_outside b (x - 32768) xs (x - 32768 + length xs) (omega arith)) (omega arith) (omega arith))
     (Spells-put b heap_place s.heap y offset (x - 32768) cut xs k.words.heap c h (omega arith)) refl)
-reached_spells b s x room xs k (in_flex cut offset is e h q) =
+landed_spells b s x xs k (in_flex cut offset is e h q) =
     let f = cut_found s cut.here.anchor cut is refl (HaveAnchors-cut cut.before cut.here cut.after (subst HaveAnchors is k.words.anchors)).before in
     let place : x - 32768 ≡ flex_place s + total weight cut.before + 8 + offset = omega arith in
     let w = put_words b (with_part b (x - 32768) xs) s cut.here.anchor (flex_place s + total weight cut.before)
@@ -273,13 +337,13 @@ reached_spells b s x room xs k (in_flex cut offset is e h q) =
     (ap (λ p. with_part b p xs) place) in
     subst (SpellsSlot (with_part b (x - 32768) xs)) (sym q) (paged _ _ _ w.0 w.1 (length-put b (x - 32768) xs ∙ k.pages))
 
-pub reached_budging : (s : Slot) (x room : ℕ) (xs : List ℕ) → Reached s x room xs → (written_in x xs (buffer_at x room s) s).budging ≡ s.budging
-reached_budging s x room xs (in_heap cut y offset c e h q) = ap (λ (t : Slot). t.budging) q
-reached_budging s x room xs (in_flex cut offset is e h q) = ap (λ (t : Slot). t.budging) q
+pub landed_budging : (s : Slot) (x : ℕ) (xs : List ℕ) {new : Slot} → Lands s x xs new → new.budging ≡ s.budging
+landed_budging s x xs (in_heap cut y offset c e h q) = ap (λ (t : Slot). t.budging) q
+landed_budging s x xs (in_flex cut offset is e h q) = ap (λ (t : Slot). t.budging) q
 
 -- what is written leaves the C heap its shape
-pub reached_shape : (s : Slot) (x room : ℕ) (xs : List ℕ) → Reached s x room xs → SameShape (written_in x xs (buffer_at x room s) s).heap s.heap
-reached_shape s x room xs (in_heap cut y offset c e h q) =
+pub landed_shape : (s : Slot) (x : ℕ) (xs : List ℕ) {new : Slot} → Lands s x xs new → SameShape new.heap s.heap
+landed_shape s x xs (in_heap cut y offset c e h q) =
     let new = written (bytes_of cut.here) offset xs in
     subst (λ (t : Slot). SameShape t.heap s.heap) (sym q) (record {
       blank = blank-append cut.before (Used new ∷ cut.after)
@@ -287,4 +351,4 @@ reached_shape s x room xs (in_heap cut y offset c e h q) =
           ∙ sym (ap blank c.is ∙ blank-append cut.before (Used (bytes_of cut.here) ∷ cut.after));
       end = refl;
     })
-reached_shape s x room xs (in_flex cut offset is e h q) = subst (λ (t : Slot). SameShape t.heap s.heap) (sym q) (record { blank = refl; end = refl })
+landed_shape s x xs (in_flex cut offset is e h q) = subst (λ (t : Slot). SameShape t.heap s.heap) (sym q) (record { blank = refl; end = refl })

@@ -3,7 +3,7 @@ ghost use Rattle.std.specs.Prelude.{◌≡◌, ◌≤◌, ◌<◌, ◌+◌, ◌-
 ghost use Rattle.rh_defs.specs.Bytes.{part};
 ghost use Rattle.rh_defs.specs.Chain.{no_answer};
 ghost use Rattle.rh_defs.specs.Memory.{IsOpen, bytes};
-ghost use Rattle.rh_defs.specs.Places.{buffer_at, free_anchor as free_anchor_on, written_in};
+ghost use Rattle.rh_defs.specs.Places.{buffer_at, free_anchor as free_anchor_on, written_held, written_in};
 ghost use Rattle.rh_defs.specs.Slot.{holds, slot_put, slot_start};
 ghost use Rattle.rh_defs.specs.SlotImage.{flex_place};
 ghost use Rattle.rh_defs.specs.declared.sizes.TheConstants.{ANCHORS, C_HEAP_PLACE};
@@ -126,5 +126,17 @@ pub fn write_from<S: Store>(
 {
     let map = take_map(store, slot.span());
     store.copy(from, place, slot.area, address - SLOT_START, n);
+    keep_map(store, slot.span(), map);
+}
+
+/// Writes bytes that were lent at an address, where one block of the slot has them all.
+pub fn write_at<S: Store>(store: &mut S, slot: Slot, address: usize, from: &[u8])
+    requires slot { IsSlotIn (S.memory store.old) slot }
+    requires held { holds address (length from.now) (slot_in (S.memory store.old) slot) ≡ true }
+    ensures { LeavesSlotIn (S.memory store.old) (S.memory store.new) slot
+        (no_answer (Ok (written_held address from.now (slot_in (S.memory store.old) slot)))) (Ok tt) }
+{
+    let map = take_map(store, slot.span());
+    store.copy_in(slot.area, address - SLOT_START, from);
     keep_map(store, slot.span(), map);
 }

@@ -11,7 +11,7 @@ ghost use Rattle.rh_slot.specs.Inner.FoundBlocks.{FoundFlex, FoundAt, splice};
 use crate::area::{clear, grow_to, read, room_for, slide, trim, write, write_bytes};
 use crate::row::shift;
 use crate::slot::Slot;
-use rh_defs::sizes::{ANCHORS, FLEX_HEADER, SLOT_START, WORD, flex_weight, moved};
+use rh_defs::sizes::{ANCHORS, FLEX_HEADER, SLOT_START, WORD, flex_weight, moved, pages_for};
 use rh_defs::{Anchor, Refusal};
 use rh_store::{Pages, Words, WordsMut};
 
@@ -104,6 +104,24 @@ impl Slot {
             return Err(Refusal::NoBlock);
         };
         Ok(SLOT_START + spot.place + FLEX_HEADER)
+    }
+
+    /// Whether a block of `n` zeros would be put on top. Refused as `alloc` is, and nothing changes.
+    pub fn can_alloc<S: Pages>(self, store: &S, anchor: Anchor, n: u32) -> Result<(), Refusal>
+        requires slot { IsSlotIn (S.memory store.now) self }
+        requires anchor { anchor < ANCHORS }
+        ensures { result ≡ outcome_of (slot_alloc (S.memory store.now).free anchor n
+            (slot_in (S.memory store.now) self)) }
+    {
+        if let Some(_) = self.locate(store, anchor) {
+            return Err(Refusal::AnchorInUse);
+        }
+        let top = self.top(store);
+        let more = pages_for(top + flex_weight(n as usize)).saturating_sub(pages_for(top));
+        if more > store.free_pages() {
+            return Err(Refusal::NoRoom);
+        }
+        Ok(())
     }
 
     /// Puts a block of `n` zeros on top and answers its address, from &8000 on. Refused: `AnchorInUse` where the

@@ -9,7 +9,7 @@ mod image;
 mod row;
 mod slot;
 
-pub use bytes::{append_from, free_anchor, put_from, write_from};
+pub use bytes::{append_from, free_anchor, put_from, write_at, write_from};
 pub use image::{LONGEST_SLOT, SlotFault, SlotSummary, check};
 pub use row::FlexWalk;
 pub use slot::Slot;

@@ -1,6 +1,6 @@
 use Rattle.rh_slot.proofs.Common.{refl, arith, Ok, bytes, length-part, part, slot_in}
 use Rattle.rh_defs.specs.Places.{buffer_at, written_in}
-use Rattle.rh_slot.proofs.ReachLaws.{reached_part, within, reached_spells, reached_budging, reached_shape}
+use Rattle.rh_slot.proofs.ReachLaws.{reached_part, within, landed_spells, landed_budging, landed_shape}
 use Rattle.rh_slot.proofs.SpanLaws.{is_span_at}
 use Rattle.rh_slot.proofs.WriteLaws.{copied, map_after}
 use Rattle.rh_slot.proofs.bytes.write_from.Goals as goal
@@ -9,7 +9,7 @@ pub overflow_sub-address : goal.overflow_sub-address
 overflow_sub-address g c =
     let r = reached_part _ _ _ _ (bytes (g.S.Words.memory c.args.store.now) c.args.from.0) c.args.place _ c.requires.slot.spells c.requires.fits
     c.requires.reach in
-    let w = within _ _ _ _ _ c.requires.slot.spells r in
+    let w = within _ _ _ _ c.requires.slot.spells r in
     omega (arith, w.low)
 
 pub copy-requires-clause-source : goal.copy-requires-clause-source
@@ -20,7 +20,7 @@ copy-requires-clause-target g c =
     let n = length-part (bytes (g.S.Words.memory c.args.store.now) c.args.from.0) c.args.place c.args.n in
     let r = reached_part _ _ _ _ (bytes (g.S.Words.memory c.args.store.now) c.args.from.0) c.args.place _ c.requires.slot.spells c.requires.fits
     c.requires.reach in
-    let w = within _ _ _ _ _ c.requires.slot.spells r in
+    let w = within _ _ _ _ c.requires.slot.spells r in
     rw c.take_map-map.ensures.same (omega (arith, w.high))
 
 pub take_map-map-requires : goal.take_map-map-requires
@@ -34,8 +34,8 @@ keep_map-requires-clause-span g c =
     let xs = part (bytes m c.args.from.0) c.args.place c.args.n in
     let r = reached_part _ _ _ _ (bytes m c.args.from.0) c.args.place _ c.requires.slot.spells c.requires.fits c.requires.reach in
     let s = written_in c.args.address xs (buffer_at c.args.address c.args.room old) old in
-    let l = copied m n c.args.slot (Ok (s, tt)) s _ _ refl (reached_budging _ _ _ _ r) (rw c.take_map-map.ensures.same at c.copy.ensures)
-    (reached_spells _ _ _ _ _ c.requires.slot.spells r) in
+    let l = copied m n c.args.slot (Ok (s, tt)) s _ _ refl (landed_budging _ _ _ r) (rw c.take_map-map.ensures.same at c.copy.ensures)
+    (landed_spells _ _ _ _ c.requires.slot.spells r) in
     is_span_at n c.args.slot _ c.span-2.ensures l.still
 
 pub keep_map-requires-clause-index : goal.keep_map-requires-clause-index
@@ -46,9 +46,9 @@ keep_map-requires-clause-index g c =
     let xs = part (bytes m c.args.from.0) c.args.place c.args.n in
     let r = reached_part _ _ _ _ (bytes m c.args.from.0) c.args.place _ c.requires.slot.spells c.requires.fits c.requires.reach in
     let s = written_in c.args.address xs (buffer_at c.args.address c.args.room old) old in
-    let l = copied m n c.args.slot (Ok (s, tt)) s _ _ refl (reached_budging _ _ _ _ r) (rw c.take_map-map.ensures.same at c.copy.ensures)
-    (reached_spells _ _ _ _ _ c.requires.slot.spells r) in
-    map_after _ m n c.args.slot s _ _ l.slot (reached_shape _ _ _ _ r) c.span.ensures c.span-2.ensures c.take_map-map.result c.take_map-map.ensures.index
+    let l = copied m n c.args.slot (Ok (s, tt)) s _ _ refl (landed_budging _ _ _ r) (rw c.take_map-map.ensures.same at c.copy.ensures)
+    (landed_spells _ _ _ _ c.requires.slot.spells r) in
+    map_after _ m n c.args.slot s _ _ l.slot (landed_shape _ _ _ r) c.span.ensures c.span-2.ensures c.take_map-map.result c.take_map-map.ensures.index
 
 pub returns : goal.returns
 returns g c =
@@ -58,6 +58,6 @@ returns g c =
     let xs = part (bytes m c.args.from.0) c.args.place c.args.n in
     let r = reached_part _ _ _ _ (bytes m c.args.from.0) c.args.place _ c.requires.slot.spells c.requires.fits c.requires.reach in
     let s = written_in c.args.address xs (buffer_at c.args.address c.args.room old) old in
-    let l = copied m n c.args.slot (Ok (s, tt)) s _ _ refl (reached_budging _ _ _ _ r) (rw c.take_map-map.ensures.same at c.copy.ensures)
-    (reached_spells _ _ _ _ _ c.requires.slot.spells r) in
+    let l = copied m n c.args.slot (Ok (s, tt)) s _ _ refl (landed_budging _ _ _ r) (rw c.take_map-map.ensures.same at c.copy.ensures)
+    (landed_spells _ _ _ _ c.requires.slot.spells r) in
     rw c.keep_map.ensures l
