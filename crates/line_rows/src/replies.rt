@@ -1,7 +1,11 @@
 //! Bad lines, first lines of replies, and rows of text.
 
+use rh_defs::sizes::LONGEST_DATA;
 use rh_defs::{Action, EventCode, Handle, LineFault, Numbers, Outcome, Ref, Refusal, Reply};
-use rh_lines::{Row, Sink, WriteFailed, add_number, print_fault, print_first_line, put};
+use rh_lines::{
+    Row, Sink, WriteFailed, WriterPen, add_number, print_fault, print_first_line, put,
+    put_handed_line,
+};
 
 const FAULTS: [LineFault; 6] = [
     LineFault::TooLong,
@@ -12,8 +16,10 @@ const FAULTS: [LineFault; 6] = [
     LineFault::Word(255),
 ];
 
-const REPLIES: [Reply; 16] = [
+const REPLIES: [Reply; 20] = [
     Reply::Refused(Refusal::TooManyAreas),
+    Reply::Refused(Refusal::WrongManner),
+    Reply::Refused(Refusal::BadRef),
     Reply::Done,
     Reply::Started(Handle(4_294_967_295)),
     Reply::Block { address: 0x1800014 },
@@ -23,6 +29,8 @@ const REPLIES: [Reply; 16] = [
     Reply::WasBudging(true),
     Reply::WasBudging(false),
     Reply::Sent(Ref(1)),
+    Reply::Answering(Ref(0)),
+    Reply::Answering(Ref(MOST)),
     Reply::Moved { bytes: 0 },
     Reply::Made { number: 256 },
     Reply::Answered(Numbers::Shown { size: 10 }),
@@ -39,8 +47,9 @@ const REPLIES: [Reply; 16] = [
 
 const MOST: u32 = 4_294_967_295;
 
-/// Events by their code, action, refs and outcome: of transfers by RAM, of ends, and of transfers by file.
-const EVENTS: [(EventCode, Action, u32, u32, Outcome); 14] = [
+/// Events by their code, action, refs and outcome: of transfers by RAM, of ends, of transfers by file, and of tasks
+/// with code of their own.
+const EVENTS: [(EventCode, Action, u32, u32, Outcome); 17] = [
     (
         EventCode::Recorded,
         Action::DataSave,
@@ -148,6 +157,15 @@ const EVENTS: [(EventCode, Action, u32, u32, Outcome); 14] = [
             refusal: Refusal::ExcessiveShrink,
         },
     ),
+    (EventCode::User, Action::DataSave, 1, 0, Outcome::Taken),
+    (EventCode::Recorded, Action::Other(0), 2, 1, Outcome::Taken),
+    (
+        EventCode::Acknowledge,
+        Action::Other(MOST),
+        MOST,
+        MOST,
+        Outcome::Taken,
+    ),
 ];
 
 /// Prints bad lines, first lines of replies, and rows.
@@ -168,7 +186,17 @@ pub(crate) fn print_replies<W: Sink>(output: &mut W) -> Result<(), WriteFailed> 
         };
         print_first_line(&event, output)?;
     }
+    print_handed(output)?;
     print_rows(output)
+}
+
+/// Prints lines of messages that tasks are handed: with a word of data, with none, and with the most.
+fn print_handed<W: Sink>(output: &mut W) -> Result<(), WriteFailed> {
+    let mut pen = WriterPen::new(output, &mut []);
+    put_handed_line(Handle(2), b"\x01\x23\xab\xff", &mut pen);
+    put_handed_line(Handle(MOST), b"", &mut pen);
+    put_handed_line(Handle(1), &[0x7f; LONGEST_DATA], &mut pen);
+    pen.finish()
 }
 
 /// Prints a row of words, one of digits, and one that is a number.

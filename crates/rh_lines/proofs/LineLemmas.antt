@@ -1,4 +1,4 @@
--- What a line means, by its first word and its first six words.
+-- What a line means, by its first word and its first eight words.
 use Rattle.std.proofs.Common.{◌≡◌, ℕ, ◌+◌, ◌<◌, ◌≤◌, Bool, true, false, eqb, List, [], ◌∷◌, ◌++◌, length, take, refl, ◌∙◌}
 use Rattle.std.proofs.Common.{ap, arith, rules, ◌&&◌, ◌||◌, ◌⊎◌, inl, inr}
 use Rattle.std.specs.Prelude.{nat_le, if◌then◌else◌, Ok, Err}
@@ -60,7 +60,7 @@ pub by_none : (words : List (List ℕ)) {texts : List (List ℕ)} → IsNoneOf (
 unfolding command_by ◌>>=◌
 by_none words {texts} none known = rw (no_row (nth_word words 1) words texts Unknown rows none.differs known) refl
 
--- ---- by the first six words
+-- ---- by the first eight words
 
 is_not : (n k : ℕ) → k < n → eqb n k ≡ false
 is_not n k more = let differs : n ≡ k → ⊥ = λ e. omega arith in search (rules, tests)
@@ -76,9 +76,9 @@ not_counted (Maybe form ∷ forms) n count more =
     neither (eqb count n) _ (is_not count n (omega (arith, more))) (not_counted forms (n + 1) count (omega (arith, more)))
 not_counted (form ∷ forms) n count more = not_counted forms (n + 1) count (omega (arith, more))
 
--- a row has at most one word behind its first, and five in all
+-- a row has at most one word behind its first, and seven in all
 abbrev is_short : GrammarRow → Bool
-is_short row = nat_le (length row.further) 1 && nat_le (1 + length row.further + length row.forms) 5
+is_short row = nat_le (length row.further) 1 && nat_le (1 + length row.further + length row.forms) 7
 
 second_follows : (texts words others : List (List ℕ)) → nat_le (length texts) 1 ≡ true → nth_word words 2 ≡ nth_word others 2 →
     follow texts words 1 ≡ follow texts others 1
@@ -87,13 +87,13 @@ second_follows (text ∷ []) words others short e = rw e refl
 second_follows (text ∷ other ∷ texts) words others short e = absurd (search (rules, tests, short))
 
 -- lines with too many words
-module _ (words others : List (List ℕ)) (second : nth_word words 2 ≡ nth_word others 2) (many : 5 < length words) (more : 5 < length others) where
+module _ (words others : List (List ℕ)) (second : nth_word words 2 ≡ nth_word others 2) (many : 7 < length words) (more : 7 < length others) where
   too_long : (row : GrammarRow) → is_short row ≡ true → row_means row words ≡ row_means row others
   too_long row short =
       let named : ℕ = 1 + length row.further in
-      let fits : nat_le (named + length row.forms) 5 ≡ true =
-      (and_true (nat_le (length row.further) 1) (nat_le (named + length row.forms) 5) short).1 in
-      let few : named + length row.forms ≤ 5 = search (rules, tests) in
+      let fits : nat_le (named + length row.forms) 7 ≡ true =
+      (and_true (nat_le (length row.further) 1) (nat_le (named + length row.forms) 7) short).1 in
+      let few : named + length row.forms ≤ 7 = search (rules, tests) in
       rw (
         not_counted row.forms named (length words) (omega (arith, few, many)),
         not_counted row.forms named (length others) (omega (arith, few, more)),
@@ -119,7 +119,7 @@ module _ (words others : List (List ℕ)) (second : nth_word words 2 ≡ nth_wor
   too_many w (row ∷ rs) short fault =
       let now = and_true (is_short row) (list_all is_short rs) short in
       let few : nat_le (length row.further) 1 ≡ true =
-      (and_true (nat_le (length row.further) 1) (nat_le (1 + length row.further + length row.forms) 5) now.0).0 in
+      (and_true (nat_le (length row.further) 1) (nat_le (1 + length row.further + length row.forms) 7) now.0).0 in
       rw (
         is_not (length words) 1 (omega (arith, many)),
         is_not (length others) 1 (omega (arith, more)),
@@ -127,32 +127,32 @@ module _ (words others : List (List ℕ)) (second : nth_word words 2 ≡ nth_wor
       )
       (one_row w fault row rs (bytes_eq w row.first) (follow row.further others 1) now.0 (too_many w rs now.1))
 
-first_same : (words : List (List ℕ)) → nth_word (take 6 words) 1 ≡ nth_word words 1
+first_same : (words : List (List ℕ)) → nth_word (take 8 words) 1 ≡ nth_word words 1
 first_same [] = refl
 first_same (w ∷ words) = refl
 
-second_same : (words : List (List ℕ)) → nth_word (take 6 words) 2 ≡ nth_word words 2
+second_same : (words : List (List ℕ)) → nth_word (take 8 words) 2 ≡ nth_word words 2
 second_same [] = refl
 second_same (w ∷ []) = refl
 second_same (w ∷ v ∷ words) = refl
 
-few_or_many : (n : ℕ) → (n ≤ 6) ⊎ (5 < n)
+few_or_many : (n : ℕ) → (n ≤ 8) ⊎ (7 < n)
 few_or_many n = grind arith
 
-commands_same : (words : List (List ℕ)) → (length words ≤ 6) ⊎ (5 < length words) → command_of (take 6 words) ≡ command_of words
+commands_same : (words : List (List ℕ)) → (length words ≤ 8) ⊎ (7 < length words) → command_of (take 8 words) ≡ command_of words
 unfolding command_by rows
-commands_same words (inl few) = ap command_of (take_all 6 words few)
+commands_same words (inl few) = ap command_of (take_all 8 words few)
 commands_same words (inr many) =
-    ap (λ w. command_by w (take 6 words)) (first_same words)
-    ∙ too_many (take 6 words) words (second_same words) (grind (arith, length-take)) many (nth_word words 1) rows refl Unknown
+    ap (λ w. command_by w (take 8 words)) (first_same words)
+    ∙ too_many (take 8 words) words (second_same words) (grind (arith, length-take)) many (nth_word words 1) rows refl Unknown
 
 pub command_of-first_words : (line : List ℕ) → command_of (first_words line) ≡ command_of (words_of line)
 unfolding first_words
 command_of-first_words line = commands_same (words_of line) (few_or_many (length (words_of line)))
 
-skipped_same : (words : List (List ℕ)) → is_skipped (take 6 words) ≡ is_skipped words
+skipped_same : (words : List (List ℕ)) → is_skipped (take 8 words) ≡ is_skipped words
 skipped_same [] = refl
-skipped_same (w ∷ words) = let longer : eqb (length (w ∷ take 5 words)) 0 ≡ eqb (length (w ∷ words)) 0 = search (rules, tests) in cc
+skipped_same (w ∷ words) = let longer : eqb (length (w ∷ take 7 words)) 0 ≡ eqb (length (w ∷ words)) 0 = search (rules, tests) in cc
 
 pub is_skipped-first_words : (line : List ℕ) → is_skipped (first_words line) ≡ is_skipped (words_of line)
 unfolding first_words

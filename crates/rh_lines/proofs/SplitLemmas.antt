@@ -65,14 +65,14 @@ short_piece : (piece : List ℕ) → length (piece_words piece) ≤ 1
 short_piece piece = one_at_most (λ w. not (eqb (length w) 0)) piece _ refl
 
 -- the rest is the last piece
-pub found_last : {X : Type 0} (f : X → List ℕ) (line rest : List ℕ) (old new : List X) → words_of line ≡ map f old ++ words_of rest → length old < 6
+pub found_last : {X : Type 0} (f : X → List ℕ) (line rest : List ℕ) (old new : List X) → words_of line ≡ map f old ++ words_of rest → length old < 8
     → NoneBelow (λ b. eqb b space) rest (length rest) → map f new ≡ map f old ++ piece_words rest → map f new ≡ first_words line
 unfolding first_words
 found_last f line rest old new so_far room none e =
     let all : words_of line ≡ map f new = so_far ∙ (ap (λ z. map f old ++ z) (words_last rest none) ∙ sym e) in
-    let short : length (map f new) ≤ 6 =
+    let short : length (map f new) ≤ 8 =
     simp (e, length-append, length-map) (omega (arith, short_piece rest)) in
-    sym (ap (take 6) all ∙ take_all 6 (map f new) short)
+    sym (ap (take 8) all ∙ take_all 8 (map f new) short)
 
 -- one more piece, where there is room for another
 pub found_next : {X : Type 0} (f : X → List ℕ) (line rest : List ℕ) (n : ℕ) (old new : List X) → words_of line ≡ map f old ++ words_of rest → n < length rest
@@ -84,25 +84,25 @@ found_next f line rest n old new so_far lt none e same =
     ∙ (sym (append_assoc (map f old) (piece_words (take n rest)) (words_of (drop (suc n) rest)))
     ∙ ap (λ z. z ++ words_of (drop (suc n) rest)) (sym same))))
 
-found_more : {X : Type 0} (f : X → List ℕ) (old new : List X) (piece : List ℕ) → length old < 6 → map f new ≡ map f old ++ piece_words piece → length new ≤ 6
+found_more : {X : Type 0} (f : X → List ℕ) (old new : List X) (piece : List ℕ) → length old < 8 → map f new ≡ map f old ++ piece_words piece → length new ≤ 8
 found_more f old new piece room e =
     omega (arith, simp (length-append, length-map) at (ap length e), short_piece piece)
 
-pub still_room : {X : Type 0} (f : X → List ℕ) (old new : List X) (piece : List ℕ) (full : Bool) → length old < 6
-    → map f new ≡ map f old ++ piece_words piece → full ≡ eqb (length new) 6 → full ≡ false → length new < 6
+pub still_room : {X : Type 0} (f : X → List ℕ) (old new : List X) (piece : List ℕ) (full : Bool) → length old < 8
+    → map f new ≡ map f old ++ piece_words piece → full ≡ eqb (length new) 8 → full ≡ false → length new < 8
 still_room f old new piece full room e is not_full =
-    let most : length new ≤ 6 = found_more f old new piece room e in
-    let differs : eqb (length new) 6 ≡ false = sym is ∙ not_full in
+    let most : length new ≤ 8 = found_more f old new piece room e in
+    let differs : eqb (length new) 8 ≡ false = sym is ∙ not_full in
     grind (arith, tests)
 
-pub no_room : (n : ℕ) (full : Bool) → full ≡ eqb n 6 → full ≡ true → n ≡ 6
-no_room n full is full_is = let same : eqb n 6 ≡ true = sym is ∙ full_is in search (rules, tests)
+pub no_room : (n : ℕ) (full : Bool) → full ≡ eqb n 8 → full ≡ true → n ≡ 8
+no_room n full is full_is = let same : eqb n 8 ≡ true = sym is ∙ full_is in search (rules, tests)
 
 -- there is no room for more
-pub found_full : {X : Type 0} (f : X → List ℕ) (line : List ℕ) (new : List X) (rest : List (List ℕ)) → words_of line ≡ map f new ++ rest → length new ≡ 6
+pub found_full : {X : Type 0} (f : X → List ℕ) (line : List ℕ) (new : List X) (rest : List (List ℕ)) → words_of line ≡ map f new ++ rest → length new ≡ 8
     → map f new ≡ first_words line
 unfolding first_words
 found_full f line new rest all full =
-    let same : 6 ≡ length (map f new) = simp length-map (sym full) in
-    sym (ap (take 6) all ∙ (ap (λ k. take k (map f new ++ rest)) same ∙ (take-append-le (length (map f new)) (map f new) rest (omega arith)
+    let same : 8 ≡ length (map f new) = simp length-map (sym full) in
+    sym (ap (take 8) all ∙ (ap (λ k. take k (map f new ++ rest)) same ∙ (take-append-le (length (map f new)) (map f new) rest (omega arith)
     ∙ take_all (length (map f new)) (map f new) (omega arith))))

@@ -1,5 +1,6 @@
 -- A text in lent bytes after one more write.
-use Rattle.std.proofs.Common.{◌≡◌, ℕ, ◌+◌, ◌-◌, ◌≤◌, ◌^◌, true, false, List, [], ◌∷◌, ◌++◌, length, take, drop, min, refl, sym, ap, ◌∙◌, arith, append_assoc}
+use Rattle.std.proofs.Common.{◌≡◌, ℕ, ◌+◌, ◌-◌, ◌≤◌, ◌^◌, true, false, List, [], ◌∷◌, ◌++◌, length, take, drop, min, refl, sym, ap, ◌∙◌, ◌<◌, arith}
+use Rattle.std.proofs.Common.{append_assoc, append-nil}
 use Rattle.std.proofs.Common.{length-append, length-drop, length-take-le, take-append-drop}
 use Rattle.std.proofs.Math.Seq.{drop-append-add, drop-append_seam}
 use borrow.Rule.Slice.PartMut.{put_mid}
@@ -7,7 +8,7 @@ use Rattle.std.specs.Prelude.{nat_lt, ◌&&◌}
 use Rattle.std.proofs.lemmas.List.{drop-drop}
 use borrow.Author.Tests.{tests}
 use Rattle.rh_lines.specs.Flow.{Takes, Breaks}
-use Rattle.rh_lines.specs.WholeText.{output_of, before_of, whole_text}
+use Rattle.rh_lines.specs.WholeText.{output_of, text_offered, before_of, whole_text}
 use Rattle.rh_lines.specs.Inner.TextWrites.{Wrote}
 use Rattle.rh_lines.specs.declared.whole_text.WholeText.{WholeText}
 
@@ -67,6 +68,18 @@ counted-later beyond bytes more at n all count after noted part counted added =
     let long = ap length noted ∙ length-append beyond (drop n bytes) in
     let left = length-drop n bytes in omega arith
 
+-- where bytes that have room leave some, none was offered beyond it
+pub none-beyond : (beyond : List ℕ) (at n all : ℕ) → at + n < all → (nat_lt at all && nat_lt 0 (length beyond)) ≡ false → beyond ≡ []
+none-beyond [] at n all room full = refl
+none-beyond (x ∷ beyond) at n all room full = absurd (grind (arith, tests))
+
+-- what was offered, where bytes that have room leave some
+pub offered-whole : (before front bytes beyond text : List ℕ) → beyond ≡ [] → text ≡ front ++ bytes
+    → before ++ (text ++ beyond) ≡ (before ++ (front ++ beyond)) ++ bytes
+offered-whole before front bytes beyond text none written =
+    ap (λ l. before ++ (text ++ l)) none ∙ ap (λ l. before ++ l) (append-nil text ∙ written) ∙ sym (append_assoc before front bytes)
+    ∙ ap (λ l. (before ++ l) ++ bytes) (sym (ap (λ l. front ++ l) none ∙ append-nil front))
+
 -- ---- what a caller knows of a text that others wrote
 
 parts : {x y m n : ℕ} {xs ys : List ℕ} → x ∷ m ∷ xs ≡ y ∷ n ∷ ys → (x ≡ y) × ((m ≡ n) × (xs ≡ ys))
@@ -80,14 +93,18 @@ fronts (x ∷ xs) ys (u ∷ us) vs long e =
     let first : x ≡ u = cc in
     let both = fronts xs ys us vs (omega arith) (cc) in (ap (λ z. z ∷ xs) first ∙ ap (λ zs. u ∷ zs) both.0, both.1)
 
--- what was written stands behind the text, in the bytes that were lent
-pub wrote : {old new : WholeText} {bytes : List ℕ} → Takes (output_of old) (output_of new) bytes → Wrote old new bytes
-unfolding output_of
-wrote {old} {new} {bytes} takes =
-    let split = parts takes.taken in
+-- what was offered stands behind the text, in the bytes that were lent
+pub added : {old new : WholeText} {bytes : List ℕ} → text_offered new ≡ text_offered old ++ bytes → Wrote old new bytes
+unfolding text_offered
+added {old} {new} {bytes} offered =
+    let split = parts offered in
     let both = fronts (before_of new) (whole_text new) (before_of old) (whole_text old ++ bytes) split.1.0
     (split.1.1 ∙ append_assoc (before_of old) (whole_text old) bytes) in
     record { same_reference = split.0; before = both.0; text = both.1 }
+
+pub wrote : {old new : WholeText} {bytes : List ℕ} → Takes (output_of old) (output_of new) bytes → Wrote old new bytes
+unfolding output_of
+wrote takes = added takes.taken
 
 -- no write fails
 pub writes_all : (old new : WholeText) {bytes : List ℕ} → Breaks (output_of old) (output_of new) bytes → ⊥

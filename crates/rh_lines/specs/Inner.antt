@@ -3,3 +3,4 @@ pub mod PieceWords
 pub mod TextWrites
 pub mod Fronts
 pub mod OneProof
+pub mod MannerWords

@@ -22,9 +22,13 @@ whole_text t = take t.taken t.bytes.now ++ t.beyond.bytes
 
 -- All that was offered, behind the name of the loan and the bytes as they were before. No write changes these: a
 -- caller of what writes knows by them that the bytes are still the ones that it lent.
+unfoldable pub text_offered : WholeText → List ℕ
+text_offered t = t.bytes.ghost_name ∷ length (before_of t) ∷ (before_of t ++ whole_text t)
+
+-- the same, as what a writer takes
 unfoldable pub output_of : WholeText → Output
 output_of t = record {
-  taken = Some (t.bytes.ghost_name ∷ length (before_of t) ∷ (before_of t ++ whole_text t));
+  taken = Some (text_offered t);
   count = None;
   failed = false;
 }

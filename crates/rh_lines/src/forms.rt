@@ -8,8 +8,10 @@ ghost use Rattle.std.specs.Result.{result_ok};
 ghost use Rattle.hex.specs.Hex.{decode_of, hex_digit_value, is_hex_digit};
 ghost use Rattle.rh_defs.specs.Forms.{is_name, is_anchor, is_number, is_delta, is_leaf, is_decimal, number_of};
 ghost use Rattle.rh_defs.specs.Line.{name_at, number_at, delta_at, is_address, hex_number, address_at, leaf_at};
-ghost use Rattle.rh_defs.specs.Line.{choice_at, bytes_read_at, signed};
-ghost use Rattle.rh_defs.specs.declared.sizes.TheConstants.{ANCHORS, GREATEST_NUMBER, LONGEST_LEAF};
+ghost use Rattle.rh_defs.specs.Grammar.{Data as DataForm};
+ghost use Rattle.rh_defs.specs.Line.{choice_at, bytes_read_at, data_read_at, signed};
+ghost use Rattle.rh_defs.specs.Range.{is_of};
+ghost use Rattle.rh_defs.specs.declared.sizes.TheConstants.{ANCHORS, GREATEST_NUMBER, LONGEST_DATA, LONGEST_LEAF};
 ghost use Rattle.rh_lines.specs.Placed.{when_placed};
 ghost use Rattle.rh_lines.specs.declared.forms.TheConstants.{MOST_DIGITS};
 
@@ -17,7 +19,7 @@ use crate::hexadecimal::{MOST_HEX_DIGITS, hex_number};
 use crate::words::LineWords;
 use arrayvec::ArrayVec;
 use rh_defs::sizes::{ANCHORS, GREATEST_NUMBER, MOST_BYTES};
-use rh_defs::{Anchor, Leaf, LineFault, Name};
+use rh_defs::{Anchor, Data, Leaf, LineFault, Name};
 
 /// A number has at most so many decimal digits.
 const MOST_DIGITS: usize = 10;
@@ -198,4 +200,31 @@ pub fn bytes_at(
     }
     bytes.try_extend_from_slice(spelled).unwrap();
     Ok(())
+}
+
+/// Word `n` as the data of a message: hexadecimal digits of whole words, at least one.
+#[tactic(auto, unfolding(rh_defs::specs::Line::data_read_at, rh_defs::specs::Inner::Computing::computing_chain))]
+pub fn data_at(words: &LineWords<'_>, n: u8) -> Result<Data, LineFault>
+    requires { 0 < n }
+    ensures means { result ≡ data_read_at words.now n }
+    ensures form { IfOk result (λ found. IsTrue (is_of DataForm found)) }
+{
+    let mut bytes = ArrayVec::new();
+    bytes_at(words, n, &mut bytes)?;
+    let Some(data) = data_of(bytes.as_slice()) else {
+        return Err(LineFault::Word(n));
+    };
+    if !data.is_whole() {
+        return Err(LineFault::Word(n));
+    }
+    Ok(data)
+}
+
+/// Data of these bytes, none where there are more than a message has room for.
+fn data_of(bytes: &[u8]) -> Option<Data>
+    ensures { result ≡ (if nat_le (length bytes.now) LONGEST_DATA then Some bytes.now else None) }
+{
+    let mut data = ArrayVec::new();
+    data.try_extend_from_slice(bytes).ok()?;
+    Some(Data::new(data))
 }

@@ -14,6 +14,7 @@ mod noted_output;
 mod parse;
 mod pen;
 mod print;
+mod programs;
 mod row;
 mod sink;
 mod source;
@@ -28,7 +29,8 @@ pub use ghost_bytes::GhostBytes;
 pub use parse::{parse_line, read_line};
 pub use pen::Pen;
 pub use print::{
-    add_number, print_fault, print_first_line, put_fault, put_first_line, refusal_name,
+    add_number, print_fault, print_first_line, put_fault, put_first_line, put_handed_line,
+    refusal_name, refused_line,
 };
 pub use row::{ROW, Row};
 pub use sink::{Sink, WriteFailed, put};

@@ -6,7 +6,7 @@ ghost use Rattle.rh_defs.specs.Line.{command_of, is_skipped, line_means};
 ghost use Rattle.rh_lines.specs.Placed.{if_placed, when_placed, OnFound, OnNone};
 
 use crate::words::LineWords;
-use crate::{areas, flex, heaps, tasks};
+use crate::{areas, flex, heaps, programs, tasks};
 use rh_defs::sizes::LONGEST_LINE;
 use rh_defs::{Command, LineFault, Question};
 
@@ -70,6 +70,9 @@ fn put_command(words: &LineWords<'_>, command: &mut Command) -> Result<(), LineF
         return read;
     }
     if let Some(read) = areas::read_command(words, command) {
+        return read;
+    }
+    if let Some(read) = programs::read_command(words, command) {
         return read;
     }
     Err(LineFault::Unknown)

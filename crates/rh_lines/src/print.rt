@@ -6,7 +6,9 @@ ghost use Rattle.rh_defs.specs.Questions.{Nothing, each_of};
 ghost use Rattle.rh_defs.specs.declared.question.TheConstants.{MOST_NUMBERS};
 ghost use Rattle.rh_defs.specs.Messages.{code_number};
 ghost use Rattle.rh_defs.specs.Text.{address, ok, action_name, fault_text, first_line, outcome_words, refusal_name};
-ghost use Rattle.rh_defs.specs.Text.{rest_of_line};
+ghost use Rattle.rh_defs.specs.Text.{hex_words, later, rest_of_line};
+ghost use Rattle.rh_defs.specs.declared.sizes.TheConstants.{LONGEST_DATA};
+ghost use Rattle.hex.specs.Hex.{encode_lower};
 ghost use Rattle.rh_lines.specs.Flow.{Puts};
 ghost use Rattle.rh_lines.specs.declared.row.TheConstants.{ROW};
 
@@ -16,7 +18,11 @@ use crate::row::Row;
 use crate::sink::{Sink, WriteFailed};
 use crate::suffix::Suffix;
 use crate::writer_pen::WriterPen;
-use rh_defs::{Action, EventCode, LineFault, Numbers, Outcome, Ref, Refusal, Reply};
+use rh_defs::sizes::LONGEST_DATA;
+use rh_defs::{Action, EventCode, Handle, LineFault, Numbers, Outcome, Ref, Refusal, Reply};
+
+/// The line of a refused command has so many bytes before the refusal's name.
+const REFUSED: usize = 8;
 
 /// Writes the reply of a bad line, `bad FAULT`. Fails only where the writer failed or took none
 /// of what it was offered; a front of the text is then written.
@@ -64,7 +70,7 @@ pub fn put_first_line<P: Pen>(reply: &Reply, pen: &mut P)
     ensures { P.offered pen.new ≡ P.offered pen.old ++ first_line reply.now Nothing }
 {
     match reply {
-        Reply::Refused(refusal) => print_refusal(*refusal, pen),
+        Reply::Refused(refusal) => pen.put(refused_line(*refusal)),
         Reply::Done => pen.put(b"ok\n"),
         Reply::Block { address } => print_address(*address, pen),
         Reply::WasBudging(true) => pen.put(b"ok on\n"),
@@ -80,18 +86,9 @@ pub fn put_first_line<P: Pen>(reply: &Reply, pen: &mut P)
         } => print_event(*code, *action, *my_ref, *your_ref, outcome, pen),
         Reply::Started(handle) => print_number(handle.0, pen),
         Reply::Sent(number) => print_number(number.0, pen),
+        Reply::Answering(number) => print_number(number.0, pen),
         Reply::Moved { bytes: number } | Reply::Made { number } => print_number(*number, pen),
     }
-}
-
-fn print_refusal<P: Pen>(refusal: Refusal, pen: &mut P)
-    ensures { P.offered pen.new ≡ P.offered pen.old ++ (codes "refused " ++ (refusal_name refusal ++ codes "\n")) }
-{
-    let mut row = Row::new();
-    row.text(b"refused ");
-    row.text(refusal_name(refusal));
-    row.byte(b'\n');
-    pen.put(row.as_slice());
 }
 
 fn print_number<P: Pen>(number: u32, pen: &mut P)
@@ -182,6 +179,7 @@ fn add_outcome(outcome: &Outcome, row: &mut Row)
         Outcome::Failed => row.text(b" failed\n"),
         Outcome::Drained => row.text(b" drained\n"),
         Outcome::Done => row.text(b" done\n"),
+        Outcome::Taken => row.text(b" taken\n"),
         Outcome::Refused(refusal) => add_failed(*refusal, row),
         Outcome::Fetch(fetch) => add_ref(b" fetch ", *fetch, row),
         Outcome::Asked(ack) => add_ref(b" asked ", *ack, row),
@@ -258,7 +256,44 @@ fn add_code(code: EventCode, row: &mut Row)
     }
 }
 
-/// Adds the name of an action, and a space.
+/// Writes the line about a message that a task with code of its own is handed: its sender's handle, and its data in
+/// hexadecimal digits, where it has data.
+pub fn put_handed_line<P: Pen>(from: Handle, bytes: &[u8], pen: &mut P)
+    requires { length bytes.now ≤ LONGEST_DATA }
+    ensures { P.offered pen.new ≡ P.offered pen.old ++ later (codes "from") (decimal from ∷ hex_words bytes.now) }
+{
+    let mut row = Row::new();
+    row.text(b"  from ");
+    row.decimal(from.0);
+    pen.put(row.as_slice());
+    end_with(bytes, pen);
+}
+
+/// Ends a line with some bytes, behind a space where there are any.
+fn end_with<P: Pen>(bytes: &[u8], pen: &mut P)
+    requires { length bytes.now ≤ LONGEST_DATA }
+    ensures { P.offered pen.new ≡ P.offered pen.old ++ rest_of_line (hex_words bytes.now) }
+{
+    if bytes.is_empty() {
+        return pen.put(b"\n");
+    }
+    pen.put(b" ");
+    put_hex_digits(bytes, pen);
+    pen.put(b"\n");
+}
+
+/// Writes the hexadecimal digits of the data of a message.
+fn put_hex_digits<P: Pen>(bytes: &[u8], pen: &mut P)
+    requires { length bytes.now ≤ LONGEST_DATA }
+    ensures { P.offered pen.new ≡ P.offered pen.old ++ encode_lower bytes.now }
+{
+    let mut digits = [0; 2 * LONGEST_DATA];
+    let text = &mut digits[..2 * bytes.len()];
+    hex::encode_to_slice(bytes, &mut *text).unwrap();
+    pen.put(text);
+}
+
+/// Adds the name of an action, or its number where it has none, and a space.
 fn add_action(action: Action, row: &mut Row)
     requires { length row.old ≤ 50 }
     ensures value { row.new ≡ row.old ++ (action_name action ++ codes " ") }
@@ -271,6 +306,10 @@ fn add_action(action: Action, row: &mut Row)
         Action::DataLoadAck => row.text(b"DataLoadAck "),
         Action::RamFetch => row.text(b"RAMFetch "),
         Action::RamTransmit => row.text(b"RAMTransmit "),
+        Action::Other(n) => {
+            row.decimal(n);
+            row.byte(b' ');
+        }
     }
 }
 
@@ -279,30 +318,41 @@ pub fn refusal_name(refusal: Refusal) -> &'static [u8]
     ensures value { result.now ≡ refusal_name refusal }
     ensures short { length result.now ≤ 15 }
 {
+    let line = refused_line(refusal);
+    &line[REFUSED..line.len() - 1]
+}
+
+/// The line that says that a command is refused, `refused REFUSAL`.
+pub fn refused_line(refusal: Refusal) -> &'static [u8]
+    ensures value { result.now ≡ codes "refused " ++ (refusal_name refusal ++ codes "\n") }
+    ensures short { length (refusal_name refusal) ≤ 15 }
+{
     match refusal {
-        Refusal::NameInUse => b"NameInUse",
-        Refusal::NoName => b"NoName",
-        Refusal::TooManyTasks => b"TooManyTasks",
-        Refusal::NoHandles => b"NoHandles",
-        Refusal::NoFile => b"NoFile",
-        Refusal::NoBlock => b"NoBlock",
-        Refusal::AnchorInUse => b"AnchorInUse",
-        Refusal::NotABlock => b"NotABlock",
-        Refusal::NotYours => b"NotYours",
-        Refusal::Busy => b"Busy",
-        Refusal::NotOpen => b"NotOpen",
-        Refusal::NothingSent => b"NothingSent",
-        Refusal::BadRange => b"BadRange",
-        Refusal::BadSize => b"BadSize",
-        Refusal::ExcessiveShrink => b"ExcessiveShrink",
-        Refusal::NoTask => b"NoTask",
-        Refusal::NoRefs => b"NoRefs",
-        Refusal::QueueFull => b"QueueFull",
-        Refusal::NoBudge => b"NoBudge",
-        Refusal::NoRoom => b"NoRoom",
-        Refusal::NoArea => b"NoArea",
-        Refusal::TooManyAreas => b"TooManyAreas",
-        Refusal::NoNumbers => b"NoNumbers",
-        Refusal::TooBig => b"TooBig",
+        Refusal::NameInUse => b"refused NameInUse\n",
+        Refusal::NoName => b"refused NoName\n",
+        Refusal::TooManyTasks => b"refused TooManyTasks\n",
+        Refusal::NoHandles => b"refused NoHandles\n",
+        Refusal::NoFile => b"refused NoFile\n",
+        Refusal::NoBlock => b"refused NoBlock\n",
+        Refusal::AnchorInUse => b"refused AnchorInUse\n",
+        Refusal::NotABlock => b"refused NotABlock\n",
+        Refusal::NotYours => b"refused NotYours\n",
+        Refusal::Busy => b"refused Busy\n",
+        Refusal::NotOpen => b"refused NotOpen\n",
+        Refusal::NothingSent => b"refused NothingSent\n",
+        Refusal::BadRange => b"refused BadRange\n",
+        Refusal::BadSize => b"refused BadSize\n",
+        Refusal::ExcessiveShrink => b"refused ExcessiveShrink\n",
+        Refusal::NoTask => b"refused NoTask\n",
+        Refusal::NoRefs => b"refused NoRefs\n",
+        Refusal::QueueFull => b"refused QueueFull\n",
+        Refusal::NoBudge => b"refused NoBudge\n",
+        Refusal::NoRoom => b"refused NoRoom\n",
+        Refusal::NoArea => b"refused NoArea\n",
+        Refusal::TooManyAreas => b"refused TooManyAreas\n",
+        Refusal::NoNumbers => b"refused NoNumbers\n",
+        Refusal::TooBig => b"refused TooBig\n",
+        Refusal::WrongManner => b"refused WrongManner\n",
+        Refusal::BadRef => b"refused BadRef\n",
     }
 }

@@ -1,10 +1,11 @@
 //! Lines about tasks and their transfers.
 
 ghost use Rattle.std.specs.Prelude.{◌≡◌, codes, IfOk, IfNone, IfSome, OnOk, OnErr, IsTrue, ◌∷◌, []};
-ghost use Rattle.rh_defs.specs.Grammar.{Choice, Maybe, Ref as RefForm, manner_of};
+ghost use Rattle.rh_defs.specs.Grammar.{MannerWord, Maybe, Ref as RefForm};
 ghost use Rattle.rh_defs.specs.Line.{command_by, command_of, value_at, nth_word};
 ghost use Rattle.rh_defs.specs.Range.{in_range, is_of};
 ghost use Rattle.rh_lines.specs.Placed.{when_placed};
+ghost use Rattle.rh_lines.specs.Inner.MannerWords.{manner_meant};
 ghost use Rattle.rh_lines.specs.Readers.{IsNoneOf};
 
 use crate::counts::{counted, counted_from};
@@ -36,8 +37,8 @@ pub fn read_command(words: &LineWords<'_>, command: &mut Command) -> Option<Resu
     }
 }
 
-/// `task NAME BUF`, with `deaf` or `file` behind it or not.
-#[tactic(auto, unfolding(crate::specs::Placed::reading))]
+/// `task NAME BUF`, with `deaf`, `file` or `raw` behind it or not.
+#[tactic(auto, using(crate::proofs::MannerLemmas::by_manner), unfolding(crate::specs::Placed::reading))]
 #[inline(always)]
 fn task_of(words: &LineWords<'_>, command: &mut Command) -> Result<(), LineFault>
     ensures means { when_placed result command.new ≡ command_by (codes "task") words.now }
@@ -47,34 +48,28 @@ fn task_of(words: &LineWords<'_>, command: &mut Command) -> Result<(), LineFault
     counted_from(words, 3, 4)?;
     let name = name_at(words, 2)?;
     let buffer = number_at(words, 3, 1, LONGEST_BUFFER)?;
-    let deaf = deaf_at(words)?;
+    let manner = manner_at(words)?;
     *command = Command::Task {
         name,
         buffer,
-        manner: manner_of(deaf),
+        manner,
     };
     Ok(())
 }
 
-/// Whether a task is deaf, or one of files, where a fourth word says so.
-#[tactic(auto, unfolding(rh_defs::specs::Inner::Computing::computing_chain))]
-fn deaf_at(words: &LineWords<'_>) -> Result<Option<bool>, LineFault>
-    ensures { result ≡ value_at (Maybe (Choice (codes "deaf") (codes "file"))) words.now 4 }
+/// The manner of a task, which a fourth word may give.
+#[tactic(auto, unfolding(rh_defs::specs::Inner::Computing::computing_chain, rh_defs::specs::Line::choices_at))]
+fn manner_at(words: &LineWords<'_>) -> Result<Manner, LineFault>
+    ensures { result ≡ manner_meant (value_at (Maybe MannerWord) words.now 4) }
 {
     if words.count() == 3 {
-        return Ok(None);
+        return Ok(Manner::Plain);
     }
-    let deaf = choice_at(words, 4, b"deaf", b"file")?;
-    Ok(Some(deaf))
-}
-
-fn manner_of(deaf: Option<bool>) -> Manner
-    ensures { result ≡ manner_of deaf }
-{
-    match deaf {
-        None => Manner::Plain,
-        Some(true) => Manner::Deaf,
-        Some(false) => Manner::File,
+    match words.word(4) {
+        b"deaf" => Ok(Manner::Deaf),
+        b"file" => Ok(Manner::File),
+        b"raw" => Ok(Manner::Raw),
+        _ => Err(LineFault::Word(4)),
     }
 }
 

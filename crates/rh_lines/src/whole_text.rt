@@ -1,8 +1,10 @@
 //! Texts in lent bytes.
 
-ghost use Rattle.std.specs.Prelude.{◌≡◌, ◌≤◌, ◌+◌, ◌-◌, ◌^◌, ◌&&◌, ◌++◌, [], false, drop, length, min, nat_lt, take};
+ghost use Rattle.std.specs.Prelude.{◌≡◌, ◌≤◌, ◌<◌, ◌+◌, ◌-◌, ◌^◌, ◌&&◌, ◌++◌, [], false, drop, length, min, nat_lt};
+ghost use Rattle.std.specs.Prelude.{take};
 
 use crate::ghost_bytes::GhostBytes;
+use crate::pen::Pen;
 use crate::sink::{Sink, WriteFailed};
 
 /// A text in lent bytes, from their first one on. No write of it fails: what finds no room is counted, and goes
@@ -56,12 +58,40 @@ impl<'a> WholeText<'a> {
     }
 }
 
-impl Sink for WholeText<'_> {
-    ghost use Rattle.rh_lines.specs.WholeText.{output_of};
+impl WholeText<'_> {
+    ghost use Rattle.rh_lines.specs.WholeText.{text_offered};
 
-    ghost output = { output_of };
+    /// Puts bytes behind the text.
+    #[inline(always)]
+    fn add(&mut self, bytes: &[u8])
+        ensures { text_offered self.new ≡ text_offered self.old ++ bytes.now }
+    {
+        if bytes.len() < self.bytes.len() - self.taken {
+            self.add_whole(bytes);
+        } else {
+            self.add_part(bytes);
+        }
+    }
 
-    fn write(&mut self, bytes: &[u8]) -> Result<usize, WriteFailed> {
+    /// Puts bytes behind a text that leaves room for more.
+    #[inline(always)]
+    fn add_whole(&mut self, bytes: &[u8])
+        requires { self.old.taken + length bytes.now < length self.old.bytes.now }
+        ensures { text_offered self.new ≡ text_offered self.old ++ bytes.now }
+    {
+        let at = self.taken;
+        let end = at + bytes.len();
+        self.count = end;
+        self.taken = end;
+        let lent = &mut *self.bytes;
+        put_at(lent, at, bytes);
+    }
+
+    /// Puts as many bytes behind the text as have room, and counts the others.
+    #[inline(never)]
+    fn add_part(&mut self, bytes: &[u8])
+        ensures { text_offered self.new ≡ text_offered self.old ++ bytes.now }
+    {
         let at = self.taken;
         let part = bytes.len().min(self.bytes.len() - at);
         self.beyond.note(&bytes[part..]);
@@ -69,7 +99,27 @@ impl Sink for WholeText<'_> {
         self.taken = at + part;
         let lent = &mut *self.bytes;
         put_at(lent, at, &bytes[..part]);
+    }
+}
+
+impl Sink for WholeText<'_> {
+    ghost use Rattle.rh_lines.specs.WholeText.{output_of};
+
+    ghost output = { output_of };
+
+    fn write(&mut self, bytes: &[u8]) -> Result<usize, WriteFailed> {
+        self.add(bytes);
         Ok(bytes.len())
+    }
+}
+
+impl Pen for WholeText<'_> {
+    ghost use Rattle.rh_lines.specs.WholeText.{text_offered};
+
+    ghost offered = { text_offered };
+
+    fn put(&mut self, bytes: &[u8]) {
+        self.add(bytes);
     }
 }
 

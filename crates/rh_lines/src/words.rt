@@ -12,8 +12,8 @@ use arrayvec::ArrayVec;
 use memchr::memchr;
 use std::marker::Model;
 
-/// No command has more than five words: a sixth one is a word too many, and more are not looked at.
-const MOST_WORDS: usize = 6;
+/// No command has more than seven words: an eighth one is a word too many, and more are not looked at.
+const MOST_WORDS: usize = 8;
 
 /// Up to so many bytes are sooner looked over one by one than by `memchr`, which looks at many at once.
 const FEW: usize = 24;
@@ -21,7 +21,7 @@ const FEW: usize = 24;
 /// So many bytes are looked at in a turn.
 const TURN: usize = 4;
 
-/// The words of a line, up to the sixth.
+/// The words of a line, up to the eighth.
 #[derive(Drop)]
 pub struct LineWords<'a> {
     found: ArrayVec<&'a [u8], MOST_WORDS>,
@@ -58,7 +58,7 @@ impl<'a> LineWords<'a> {
         split(line, &mut self.found);
     }
 
-    /// How many words the line has, where it has fewer than six.
+    /// How many words the line has, where it has fewer than eight.
     pub fn count(&self) -> usize
         ensures { result ≡ length self.now }
     {
@@ -78,7 +78,7 @@ impl<'a> LineWords<'a> {
     }
 }
 
-/// Finds the words of a line, up to the sixth.
+/// Finds the words of a line, up to the eighth.
 fn split<'a>(line: &'a [u8], found: &mut ArrayVec<&'a [u8], MOST_WORDS>)
     requires few { length line.now ≤ LONGEST_LINE }
     requires none { found.old.items ≡ [] }
@@ -142,7 +142,7 @@ fn space_from(piece: &[u8], from: usize) -> Option<usize>
 
 /// Adds what stands between two spaces, unless that is nothing.
 fn push_word<'a>(found: &mut ArrayVec<&'a [u8], MOST_WORDS>, piece: &'a [u8])
-    requires room { length found.old.items < 6 }
+    requires room { length found.old.items < 8 }
     requires few { length piece.now ≤ LONGEST_LINE }
     requires short { All (λ w. length w.now ≤ LONGEST_LINE) found.old.items }
     ensures items { map (λ w. w.now) found.new.items ≡ map (λ w. w.now) found.old.items ++ piece_words piece.now }

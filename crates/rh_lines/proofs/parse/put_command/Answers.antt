@@ -8,4 +8,5 @@ unfolding rows
 returns-clause-means c =
     by_none c.args.words.now
     (none-both c.in_default.ensures.other (none-both c.in_default-read_command.ensures.other
-    (none-both c.in_default-read_command-2.ensures.other c.in_default-read_command-3.ensures.other))) refl
+    (none-both c.in_default-read_command-2.ensures.other
+    (none-both c.in_default-read_command-3.ensures.other c.in_default-read_command-4.ensures.other)))) refl
