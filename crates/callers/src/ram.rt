@@ -108,7 +108,7 @@ fn take_offer(receiver: &mut Receiver, room: u32, message: &Message, next: Ref) 
 
 /// A claim is granted: the buffer and the document are there, and their first RAMFetch goes out.
 fn begin(receiver: &mut Receiver, claim: &Claim, room: u32, next: Ref) -> Option<Letter>
-    ensures { receiver.old ≡ [] → claim.now ≡ record { id = 1; sender = 1 }
+    ensures { receiver.old ≡ [] → claim.now ≡ record { id = 1; sender = 1; raw = false }
         → (result ≡ Some (fetch_of room 1)) × (receiver.new ≡ fetching_at 0 next) }
 {
     receiver.fetching(claim, FILE, BUFFER, next).ok()?;

@@ -80,7 +80,7 @@ pub use Rattle.rh_tasks.specs.WorldPolls.{Becomes}
 pub use Rattle.rh_tasks.specs.Inner.PollSteps.{IsAt, IsFor, IsFreeAnchor, IsPortion, Sends}
 pub use Rattle.rh_tasks.specs.Inner.Saves.{source_block}
 pub use Rattle.rh_tasks.specs.Shown.{Shown}
-pub use Rattle.rh_tasks.specs.TransferBlock.{bytes_held}
+pub use Rattle.rh_defs.specs.Places.{bytes_held}
 pub use Rattle.rh_tasks.specs.View.{AreDistinct, Avoids, HasAreas, HasSlot, IsAbove, IsWorld, Kept, desk_of, fixed, is_named, kept_of, made_area, scrap_from}
 pub use Rattle.rh_tasks.specs.View.{scrap_size, shown_of, slot_area, the_module}
 unfoldable pub use Rattle.rh_tasks.specs.View.{fixed_pages, made_of, pages_at, scrap_of, task_of}

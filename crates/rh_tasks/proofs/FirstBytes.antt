@@ -8,7 +8,7 @@ use Rattle.rh_defs.specs.Heap.{block_around, is_around}
 use Rattle.rh_defs.specs.Slot.{flex_around}
 use Rattle.rh_defs.proofs.HeapLists.{first_at-found, first_at-none}
 use Rattle.rh_tasks.specs.Sights.{slot_bytes}
-use Rattle.rh_tasks.specs.TransferBlock.{bytes_around, bytes_in_heap}
+use Rattle.rh_defs.specs.Places.{bytes_around, bytes_in_heap}
 
 -- ---- which block holds them
 abbrev flex_at : ℕ → ℕ → ℕ → Flex → Bool

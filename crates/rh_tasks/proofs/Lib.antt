@@ -28,11 +28,14 @@ pub mod SeatRecords
 pub mod Bounces
 pub mod Sends
 pub mod Repeats
+pub mod RawSends
 pub mod SentLetters
 pub mod SendRooms
 pub mod Saves
 pub mod Takes
+pub mod Acks
 pub mod Polls
+pub mod Hands
 pub mod Tables
 pub mod Starts
 pub mod MadeCommands
@@ -63,7 +66,12 @@ pub mod Takings
 pub mod Scraps
 pub mod ScrapTransfers
 pub mod SaveScenes
+pub mod Spools
+pub mod ScrapLoads
 pub mod TransferBlocks
+pub mod RawWrites
+pub mod RawMoves
+pub mod RawRanges
 pub mod SightLaws
 pub mod FirstBytes
 pub mod StandingLaws

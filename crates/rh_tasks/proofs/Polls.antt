@@ -1,15 +1,43 @@
 -- A poll: a message is taken, and then handled.
-use Rattle.rh_tasks.proofs.Common.{◌≡◌, ℕ, ◌<◌, refl, ap, sym, subst, ◌∙◌, arith, List, length, Option, None, Some, Ok, map, option_map, length-map, Memory}
+use Rattle.rh_tasks.proofs.Common.{
+  ◌≡◌,
+  ℕ,
+  ◌<◌,
+  Bool,
+  true,
+  false,
+  if◌then◌else◌,
+  refl,
+  ap,
+  sym,
+  subst,
+  ◌∙◌,
+  arith,
+  List,
+  length,
+  Option,
+  None,
+  Some,
+  Ok,
+  map,
+  option_map,
+  length-map,
+  Memory,
+}
 use Rattle.rh_tasks.proofs.Common.{FileList, EventCode, Message, Outcome, Reply, Parcel, post_poll, Desk, Task, with_delivered, IsReordered, with_queue}
 use Rattle.rh_tasks.proofs.Common.{Handled, Granted, Answer, Seat, MadeArea, Kept, task_of, desk_of, IsWorld, FoundSeat, IsAt, IsFor, begins, sits, named-is}
 use Rattle.rh_tasks.proofs.Common.{mapped-at, reordered-at}
 use Rattle.rh_defs.specs.declared.message.Event.{Event}
 use Rattle.rh_defs.specs.declared.reply.Reply.TheVariants as reply
+use Rattle.rh_defs.specs.declared.reply.Outcome.TheVariants.{Taken}
+use Rattle.rh_defs.specs.AnyMessage.{as_read, read_body}
 use Rattle.rh_defs.specs.Messages.{action_of}
+use Rattle.rh_defs.specs.RawTasks.{is_raw}
 use Rattle.rh_defs.specs.Commands.{poll, poll_taken}
 use Rattle.rh_defs.specs.Transfer.{handled}
 use Rattle.rh_defs.proofs.OrderSteps.{Alike, handled-alike}
 use Rattle.rh_wimp.specs.Chains.{event_of}
+use Rattle.rh_tasks.specs.Inner.PollSteps.{received_as}
 use Rattle.rh_tasks.proofs.Reorders.{reordered-trans}
 
 -- ---- an event is a parcel without its recipient and block
@@ -46,6 +74,22 @@ handled-too d e t p code r last outcome q h =
     let both = alike-handled (handled d t p code) (handled other t p code) (handled-alike d e.post.queued t p code r.same) last there in
     (q ∙ ap (λ (x : Desk). (handled x t p code).1) r.rest ∙ both.0, both.1)
 
+received-too : (d e : Desk) (t : Task) (p : Parcel) (code : EventCode) → IsReordered d e → (last : Desk) (outcome : Outcome)
+    → outcome ≡ (received_as e t p code).1 → IsReordered (received_as e t p code).0 last
+    → (outcome ≡ (received_as d t p code).1) × IsReordered (received_as d t p code).0 last
+received-too d e t p code r last outcome = go (is_raw t.manner)
+  where
+    go : (b : Bool) → outcome ≡ (if b then (e, Taken) else handled e t p code).1
+        → IsReordered (if b then (e, Taken) else handled e t p code).0 last
+        → (outcome ≡ (if b then (d, Taken) else handled d t p code).1)
+        × IsReordered (if b then (d, Taken) else handled d t p code).0 last
+    go true q h = (q, reordered-trans r h)
+    go false q h = handled-too d e t p code r last outcome q h
+
+-- the message as it is read
+abbrev pub read_as : Message → Message
+read_as message = record message { body = read_body message.body }
+
 -- ---- the command
 
 module _ {m : Memory} {seats : List Seat} {made : List MadeArea} {files : FileList} {kept : Kept} {name : List ℕ} {i : ℕ} {s : Seat}
@@ -80,8 +124,15 @@ module _ {m : Memory} {seats : List Seat} {made : List MadeArea} {files : FileLi
   poll-none e last r = (taken, (poll-is ∙ ap (λ o. let a : Granted Answer = Ok (poll_taken taken (task_of m s) o) in a) e, r))
 
   module _ {code : EventCode} {message : Message} (e : IsTaken (post_poll s.handle (desk_of m seats made files kept).post).1 code message) where
+    -- the parcel as it is read
+    abbrev own_parcel : Parcel
+    own_parcel = as_read e.parcel
+
+    read-is : own_parcel.message ≡ read_as message
+    read-is = ap read_as e.message_is
+
     abbrev x : Handled
-    x = handled taken (task_of m s) e.parcel code
+    x = received_as taken (task_of m s) own_parcel code
 
     abbrev reply_with : EventCode → Message → Outcome → Reply
     reply_with k y o = reply.Event k (action_of y.body) y.my_ref y.your_ref o
@@ -92,20 +143,21 @@ module _ {m : Memory} {seats : List Seat} {made : List MadeArea} {files : FileLi
 
     -- a message was handled, on a desk that differs in that order alone
     pub poll-some : (mid last : Desk) (outcome : Outcome) → IsReordered taken mid
-        → ((t : Task) (p : Parcel) → IsFor i t mid p message → (outcome ≡ (handled mid t p code).1) × IsReordered (handled mid t p code).0 last)
-        → (y : Desk) × ((poll (desk_of m seats made files kept) name ≡ Ok
-        (y, reply.Event code (action_of message.body) message.my_ref message.your_ref outcome)) × IsReordered y last)
+        → ((t : Task) (p : Parcel) → IsFor i t mid p (read_as message) → (outcome ≡ (received_as mid t p code).1)
+        × IsReordered (received_as mid t p code).0 last)
+        → (y : Desk) × ((poll (desk_of m seats made files kept) name ≡ Ok (y, reply_with code (read_as message) outcome)) × IsReordered y last)
     unfolding poll_taken
     poll-some mid last outcome r done =
-        let own : IsFor i (task_of m s) mid e.parcel message = record { at = there mid r; message_is = e.message_is } in
-        let q = done (task_of m s) e.parcel own in
-        let h = handled-too taken mid (task_of m s) e.parcel code r last outcome q.0 q.1 in
+        let own : IsFor i (task_of m s) mid own_parcel (read_as message) = record { at = there mid r; message_is = read-is } in
+        let q = done (task_of m s) own_parcel own in
+        let h = received-too taken mid (task_of m s) own_parcel code r last outcome q.0 q.1 in
         let answer : EventCode → Answer =
-        λ k. ((handled taken (task_of m s) e.parcel k).0, reply_with k e.parcel.message (handled taken (task_of m s) e.parcel k).1) in
+        λ k. ((received_as taken (task_of m s) own_parcel k).0, reply_with k own_parcel.message (received_as taken (task_of m s) own_parcel k).1) in
         let by_code : answer e.parcel.code ≡ answer code = ap answer e.code_is in
-        let by_message : answer code ≡ (x.0, reply_with code message x.1) = ap (λ y. let a : Answer = (x.0, reply_with code y x.1) in a) e.message_is in
-        let by_outcome : (let a : Answer = (x.0, reply_with code message x.1) in a) ≡ (x.0, reply_with code message outcome) =
-        ap (λ o. let a : Answer = (x.0, reply_with code message o) in a) (sym h.0) in
+        let by_message : answer code ≡ (x.0, reply_with code (read_as message) x.1) =
+        ap (λ y. let a : Answer = (x.0, reply_with code y x.1) in a) read-is in
+        let by_outcome : (let a : Answer = (x.0, reply_with code (read_as message) x.1) in a) ≡ (x.0, reply_with code (read_as message) outcome) =
+        ap (λ o. let a : Answer = (x.0, reply_with code (read_as message) o) in a) (sym h.0) in
         let whole = by_code ∙ by_message ∙ by_outcome in (
           x.0,
           (

@@ -1,20 +1,41 @@
 -- Letters that a task sends.
+use Rattle.rh_tasks.proofs.Common.{Bool, false, if◌then◌else◌, ◌≤◌, length, bytes, grant-holds, with_delivered, SpellsPostIn}
 use Rattle.rh_tasks.proofs.Common.{◌≡◌, ℕ, refl, ap, sym, subst, ◌∙◌, List, Option, Some, None, Ok, Err, true, option_map, set, Memory, OnlyArea-self}
 use Rattle.rh_tasks.proofs.Common.{FileList, Letter, Refusal, Granted, ◌>>=◌, ◌>>◌, found_or, answer_of, left_of, in_range, Post, post_send, Desk, Task}
-use Rattle.rh_tasks.proofs.Common.{next_ref, with_task, with_post, send_letter, Answer, IsDesk, IsReordered, IsSlotIn, Answers, Chains, HasEntry, post_in, Seat}
+use Rattle.rh_tasks.proofs.Common.{
+  free_pages,
+  next_ref,
+  with_task,
+  with_post,
+  send_letter,
+  Answer,
+  IsDesk,
+  IsReordered,
+  IsSlotIn,
+  Answers,
+  Chains,
+  HasEntry,
+  post_in,
+  Seat,
+}
 use Rattle.rh_tasks.proofs.Common.{MadeArea, Kept, kept_of, the_module, HasSlot, task_of, desk_of, shown_of, IsWorld, ScrapFile, FoundSeat, with_last, Sits}
 use Rattle.rh_tasks.proofs.Common.{all-at, set_same, begins, ends, sits, named-is, free-is, granted-keeps, Moves}
 use Rattle.rh_defs.specs.declared.command.Command.TheVariants as command
 use Rattle.rh_defs.specs.declared.refusal.Refusal.TheVariants.{NothingSent}
 use Rattle.rh_defs.specs.declared.reply.Reply.TheVariants as reply
-use Rattle.rh_defs.specs.Commands.{repeat}
+use Rattle.rh_defs.specs.Commands.{after_letter, repeat}
+use Rattle.rh_defs.specs.RawCommands.{after_answer}
+use Rattle.rh_defs.specs.RawTasks.{is_raw}
+use Rattle.rh_defs.proofs.Desks.{after_answer-keeps, send_letter-keeps}
 use Rattle.rh_wimp.specs.QueueCalls.{LeavesChains}
 use Rattle.rh_tasks.specs.declared.seat.SentLetter.{SentLetter}
-use Rattle.rh_tasks.specs.View.{last_of}
+use Rattle.rh_tasks.specs.View.{kept_file, last_of, scrap_size}
 use Rattle.rh_tasks.specs.declared.next_numbers.NextNumbers.{NextNumbers}
+use Rattle.rh_tasks.specs.Inner.RawSteps.{refusal_after}
 use Rattle.rh_tasks.specs.WorldLetters.{from_last, again}
 use Rattle.rh_tasks.proofs.Chains.{answered, answer-refused}
 use Rattle.rh_tasks.proofs.Posts.{is-post, has-entry}
+use Rattle.rh_tasks.proofs.Deaths.{kept-fits, scrap-kept}
 use Rattle.rh_tasks.proofs.Sends.{desk_then, sent-alike, sent-world}
 
 -- a letter that is sent gets the next ref
@@ -61,6 +82,13 @@ again-from h (Some sent) letter e =
     let same : l ≡ letter = cc in
     sym (ap (λ (x : Letter). x.from) same)
 
+-- a step that is granted or refused, behind which all is refused
+chain-after : {A B C : Type 0} (g : Granted A) (made : A → B) (next : B → Granted C) (r : Refusal) → ((b : B) → next b ≡ Err r)
+    → ((g >>= (λ a. Ok (made a))) >>= next) ≡ Err (refusal_after g r)
+unfolding ◌>>=◌
+chain-after (Ok a) made next r all = all (made a)
+chain-after (Err first) made next r all = refl
+
 -- ---- a letter from a task
 
 module _ {m : Memory} {seats : List Seat} {made : List MadeArea} {files : FileList} {kept : Kept} {i : ℕ} {s : Seat}
@@ -81,6 +109,14 @@ module _ {m : Memory} {seats : List Seat} {made : List MadeArea} {files : FileLi
   pub letter-refused : {r : Refusal} → Answers m the_module kept.queue (λ p. answer_of (post_send m.free letter p)) (Err r) → send_letter letter d ≡ Err r
   unfolding send_letter
   letter-refused a = ends _ (ap (λ free. post_send free letter post) (free-is w) ∙ answer-refused given (a post (is-post w)))
+
+  -- it is refused in any case
+  pub letter-stopped : {B : Type 0} (next : Desk → Granted B) (r : Refusal) → ((sent : Desk) → next sent ≡ Err r) → {said : Refusal}
+      → Answers m the_module kept.queue (λ p. refusal_after (post_send m.free letter p) r) said → (send_letter letter d >>= next) ≡ Err said
+  unfolding send_letter
+  letter-stopped next r all a =
+      chain-after (post_send (free_pages d) letter post) _ next r all
+      ∙ ap (λ free. Err (refusal_after (post_send free letter post) r)) (free-is w) ∙ ap (λ x. Err x) (sym (a post (is-post w)))
 
   module _ {n : Memory} {k : Chains} (ref : ℕ) (a : Answers m the_module kept.queue (λ p. answer_of (post_send m.free letter p)) (Ok ref))
       (l : LeavesChains m n the_module kept.queue k (λ p. left_of p (post_send m.free letter p))) where
@@ -109,6 +145,32 @@ module _ {m : Memory} {seats : List Seat} {made : List MadeArea} {files : FileLi
         begins _ (ap (λ free. post_send free letter post) (free-is w) ∙ given-is)
         (ap (λ h. let r : Granted Desk = Ok (with_task h edit (with_post (left_of post given) d)) in r) own)
 
+    -- a scrap file whose DataLoad it answers is given up
+    abbrev pub answered_file : Option ScrapFile
+    answered_file = kept_file (left_of post given) kept.scrap
+
+    pub answered-spells : SpellsPostIn n the_module k (left_of post given)
+    answered-spells = l.spells post (is-post w)
+
+    fits : scrap_size answered_file ≤ length (bytes m 5)
+    fits = kept-fits (left_of post given) kept.scrap _ w.scrap
+
+    answered-is : desk_then w at last-moves l answered_file fits ≡ after_answer letter_then
+    unfolding with_delivered
+    answered-is = ap (λ o. let x : Desk = record letter_then { scrap = o } in x) (scrap-kept m (left_of post given) kept.scrap)
+
+    pub answered-good : IsDesk (after_answer letter_then)
+    answered-good = after_answer-keeps letter_then (grant-holds (send_letter-keeps letter d w.desk) letter-sent).desk
+
+    pub answered-world : IsWorld n (set seats i (with_last letter ref s)) made files (record kept { queue = k; scrap = answered_file })
+    answered-world = sent-world w at last-moves l answered_file fits (subst IsDesk (sym answered-is) answered-good)
+
+    pub answered-alike : IsReordered (after_answer letter_then)
+        (desk_of n (set seats i (with_last letter ref s)) made files (record kept { queue = k; scrap = answered_file }))
+    answered-alike =
+        subst (λ (x : Desk). IsReordered x (desk_of n (set seats i (with_last letter ref s)) made files (record kept { queue = k; scrap = answered_file })))
+        answered-is (sent-alike w at last-moves l answered_file fits (subst IsDesk (sym answered-is) answered-good))
+
 -- ---- the command that sends it once more
 
 module _ {m : Memory} {seats : List Seat} {made : List MadeArea} {files : FileList} {kept : Kept} {name : List ℕ} {i : ℕ} {s : Seat}
@@ -118,7 +180,7 @@ module _ {m : Memory} {seats : List Seat} {made : List MadeArea} {files : FileLi
 
   -- what is done with the letter
   abbrev then_sent : Letter → Granted Answer
-  then_sent letter = send_letter letter e >>= (λ sent. Ok (sent, reply.Sent (next_ref e)))
+  then_sent letter = send_letter letter e >>= (λ sent. Ok (after_letter s.manner sent, reply.Sent (next_ref e)))
 
   -- a seat that is written as it was
   pub seat-kept : set seats i s ≡ seats
@@ -141,20 +203,29 @@ module _ {m : Memory} {seats : List Seat} {made : List MadeArea} {files : FileLi
 
     module _ {n : Memory} {k : Chains} (ref : ℕ) (a : Answers m the_module kept.queue (λ p. answer_of (post_send m.free letter p)) (Ok ref))
         (l : LeavesChains m n the_module kept.queue k (λ p. left_of p (post_send m.free letter p))) (ranged : in_range (command.Repeat name) ≡ true) where
-      abbrev then : Desk
-      then = letter_then w (sits f) letter again-own ref a l
+      abbrev again_desk : Desk
+      again_desk = letter_then w (sits f) letter again-own ref a l
 
-      repeated : repeat e name ≡ Ok (then, reply.Sent ref)
-      repeated =
+      -- by whether the task has code of its own
+      repeated : (b : Bool) → is_raw s.manner ≡ b → repeat e name ≡ Ok (if b then after_answer again_desk else again_desk, reply.Sent ref)
+      repeated b is =
           repeat-is ∙ begins _ (letter-sent w (sits f) letter again-own ref a l)
-          (ap (λ x. let r : Granted (Desk × _) = Ok (then, reply.Sent x) in r) (sym (ref-is w (sits f) letter again-own ref a l)))
+          (ap (λ c. let r : Granted (Desk × _) = Ok (if c then after_answer again_desk else again_desk, reply.Sent (next_ref e)) in r) is
+          ∙ ap (λ x. let r : Granted (Desk × _) = Ok (if b then after_answer again_desk else again_desk, reply.Sent x) in r)
+          (sym (ref-is w (sits f) letter again-own ref a l)))
 
-      is-desk : IsDesk then
-      is-desk = granted-keeps e then (command.Repeat name) (reply.Sent ref) repeated ranged w.desk
+      pub repeat-answered : is_raw s.manner ≡ true → (x : Desk) × ((repeat e name ≡ Ok (x, reply.Sent ref)) × IsReordered x
+          (desk_of n (set seats i (with_last letter ref s)) made files
+          (record kept { queue = k; scrap = answered_file w (sits f) letter again-own ref a l })))
+      repeat-answered raw = (after_answer again_desk, (repeated true raw, answered-alike w (sits f) letter again-own ref a l))
 
-      pub repeat-world : IsWorld n (set seats i (with_last letter ref s)) made files (record kept { queue = k })
-      repeat-world = sent-world w (sits f) (last-moves w (sits f) letter again-own ref a l) l kept.scrap w.scrap is-desk
+      module _ (played : is_raw s.manner ≡ false) where
+        is-desk : IsDesk again_desk
+        is-desk = granted-keeps e again_desk (command.Repeat name) (reply.Sent ref) (repeated false played) ranged w.desk
 
-      pub repeat-done : (x : Desk) × ((repeat e name ≡ Ok (x, reply.Sent ref)) × IsReordered x
-          (desk_of n (set seats i (with_last letter ref s)) made files (record kept { queue = k })))
-      repeat-done = (then, (repeated, sent-alike w (sits f) (last-moves w (sits f) letter again-own ref a l) l kept.scrap w.scrap is-desk))
+        pub repeat-world : IsWorld n (set seats i (with_last letter ref s)) made files (record kept { queue = k })
+        repeat-world = sent-world w (sits f) (last-moves w (sits f) letter again-own ref a l) l kept.scrap w.scrap is-desk
+
+        pub repeat-done : (x : Desk) × ((repeat e name ≡ Ok (x, reply.Sent ref)) × IsReordered x
+            (desk_of n (set seats i (with_last letter ref s)) made files (record kept { queue = k })))
+        repeat-done = (again_desk, (repeated false played, sent-alike w (sits f) (last-moves w (sits f) letter again-own ref a l) l kept.scrap w.scrap is-desk))

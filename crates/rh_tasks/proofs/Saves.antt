@@ -5,23 +5,42 @@ use Rattle.rh_tasks.proofs.Common.{FileList, Letter, Refusal, NoName, NoTask, Bu
 use Rattle.rh_tasks.proofs.Common.{post_send, is_full, Desk, Task, next_ref, edit_task, idle_block, named, with_task, with_sending, send_letter, Answer}
 use Rattle.rh_tasks.proofs.Common.{IsDesk, IsReordered, IsSlotIn, slot_in, Answers, Chains, HasEntry, Seat, MadeArea, Kept, the_module, HasSlot, is_named}
 use Rattle.rh_tasks.proofs.Common.{Moves}
-use Rattle.rh_tasks.proofs.Common.{task_of, desk_of, IsWorld, FoundSeat, looked, with_last, source_block, all-at, begins, ends, sits, named-is, granted-keeps}
+use Rattle.rh_tasks.proofs.Common.{
+  task_of,
+  desk_of,
+  IsWorld,
+  FoundSeat,
+  looked,
+  with_last,
+  source_block,
+  all-at,
+  begins,
+  ends,
+  past,
+  stops,
+  sits,
+  named-is,
+  granted-keeps,
+}
 use Rattle.std.specs.List.{list_all}
 use Rattle.rh_defs.proofs.MessageLaws.{name_is}
 use Rattle.rh_defs.specs.Forms.{is_graphic, is_leaf}
 use Rattle.rh_defs.specs.Pathnames.{is_plain, is_pathname}
 use Rattle.rh_defs.specs.declared.command.Command.TheVariants as command
+use Rattle.rh_defs.specs.declared.refusal.Refusal.TheVariants.{WrongManner}
 use Rattle.rh_defs.specs.declared.reply.Reply.TheVariants as reply
 use Rattle.rh_defs.specs.Letters.{save_letter}
 use Rattle.rh_defs.specs.Records.{is_open, is_source, is_document}
+use Rattle.rh_defs.specs.RawTasks.{is_raw}
 use Rattle.rh_defs.specs.Sender as sender
 use Rattle.rh_defs.specs.Slot as plain
 use Rattle.rh_defs.specs.Desk.{has_name}
 use Rattle.rh_defs.specs.Commands.{save}
 use Rattle.rh_wimp.specs.QueueCalls.{LeavesChains}
+use Rattle.rh_tasks.specs.Inner.RawSteps.{refusal_after}
 use Rattle.rh_tasks.proofs.Finding.{find-named, nobody-named}
 use Rattle.rh_tasks.proofs.Sends.{desk_then, sent-alike, sent-world}
-use Rattle.rh_tasks.proofs.Repeats.{from-live, letter-refused, letter_then, letter-sent, ref-is}
+use Rattle.rh_tasks.proofs.Repeats.{from-live, letter-refused, letter-stopped, letter_then, letter-sent, ref-is}
 
 -- ---- a leafname can stand in a message
 
@@ -110,7 +129,7 @@ module _ {B : Type 0} where
 
 -- ---- one task edited twice
 
-edit-twice : (h : ℕ) (first second : Task → Task) → ((t : Task) → (first t).handle ≡ t.handle) → (tasks : List Task)
+pub edit-twice : (h : ℕ) (first second : Task → Task) → ((t : Task) → (first t).handle ≡ t.handle) → (tasks : List Task)
     → edit_task h second (edit_task h first tasks) ≡ edit_task h (λ t. second (first t)) tasks
 edit-twice h first second same [] = refl
 edit-twice h first second same (t ∷ tasks) = go (t.handle == h) refl (edit-twice h first second same tasks)
@@ -131,7 +150,8 @@ module _ {m : Memory} {seats : List Seat} {made : List MadeArea} {files : FileLi
   -- what is done with a task and a size
   abbrev then_to : Task → ℕ → Task → Granted Answer
   then_to t n r = send_letter (save_letter t.handle r.handle n leaf) d
-      >>= (λ sent. Ok (with_sending t.handle (sender.sending_offered (next_ref d) r.handle k) sent, reply.Sent (next_ref d)))
+      >>= (λ sent. refuse_if (is_raw t.manner) WrongManner
+      >> Ok (with_sending t.handle (sender.sending_offered (next_ref d) r.handle k) sent, reply.Sent (next_ref d)))
 
   abbrev then_sized : Task → ℕ → Granted Answer
   then_sized t n = found_or (find (has_name to) d.tasks) NoTask >>= then_to t n
@@ -171,7 +191,8 @@ module _ {m : Memory} {seats : List Seat} {made : List MadeArea} {files : FileLi
 
       abbrev then_from : ℕ → Granted Answer
       then_from r = send_letter (save_letter s.handle r n leaf) d
-          >>= (λ sent. Ok (with_sending s.handle (sender.sending_offered (next_ref d) r k) sent, reply.Sent (next_ref d)))
+          >>= (λ sent. refuse_if (is_raw s.manner) WrongManner
+          >> Ok (with_sending s.handle (sender.sending_offered (next_ref d) r k) sent, reply.Sent (next_ref d)))
 
       save-is : save d name k to leaf ≡ then_from h
       unfolding task_of
@@ -180,7 +201,13 @@ module _ {m : Memory} {seats : List Seat} {made : List MadeArea} {files : FileLi
       pub save-refused : {r : Refusal} → Answers m the_module kept.queue (λ p. answer_of (post_send m.free letter p)) (Err r) → save d name k to leaf ≡ Err r
       save-refused a = save-is ∙ ends _ (letter-refused w (sits f) letter refl a)
 
-      module _ {p : Memory} {q : Chains} (ref : ℕ) (a : Answers m the_module kept.queue (λ p. answer_of (post_send m.free letter p)) (Ok ref))
+      -- the task has code of its own
+      pub save-wrong : is_raw s.manner ≡ true → {said : Refusal}
+          → Answers m the_module kept.queue (λ p. refusal_after (post_send m.free letter p) WrongManner) said → save d name k to leaf ≡ Err said
+      save-wrong raw a = save-is ∙ letter-stopped w (sits f) letter refl _ WrongManner (λ sent. stops _ WrongManner _ raw) a
+
+      module _ {p : Memory} {q : Chains} (played : is_raw s.manner ≡ false) (ref : ℕ)
+          (a : Answers m the_module kept.queue (λ p. answer_of (post_send m.free letter p)) (Ok ref))
           (l : LeavesChains m p the_module kept.queue q (λ p. left_of p (post_send m.free letter p)))
           (ranged : in_range (command.Save name k to leaf) ≡ true) where
         abbrev pub saved_seat : Seat
@@ -211,7 +238,8 @@ module _ {m : Memory} {seats : List Seat} {made : List MadeArea} {files : FileLi
         saved : save d name k to leaf ≡ Ok (then, reply.Sent ref)
         saved =
             save-is ∙ begins _ (letter-sent w (sits f) letter refl ref a l)
-            (ap (λ r. let y : Granted Answer = Ok (with_sending s.handle (sender.sending_offered r h k) sent, reply.Sent r) in y)
+            (past _ WrongManner _ played refl ∙ ap (λ r. let y : Granted Answer = Ok
+            (with_sending s.handle (sender.sending_offered r h k) sent, reply.Sent r) in y)
             (sym (ref-is w (sits f) letter refl ref a l))
             ∙ ap (λ (y : Desk). let z : Granted Answer = Ok (y, reply.Sent ref) in z) opened)
 

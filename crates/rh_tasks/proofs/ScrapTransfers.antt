@@ -223,11 +223,11 @@ module _ (l : Letter) (post : Post) where
       go (Ok u) x e = refl
       go (Err r) x e = absurd cc
 
-then-past : {B : Type 0} {first : Granted (Unit {0})} (rest : Granted B) {y : Granted B} → first ≡ Ok tt → rest ≡ y → (first >> rest) ≡ y
+pub then-past : {B : Type 0} {first : Granted (Unit {0})} (rest : Granted B) {y : Granted B} → first ≡ Ok tt → rest ≡ y → (first >> rest) ≡ y
 unfolding ◌>>=◌ ◌>>◌
 then-past rest e h = rw e h
 
-then-ends : {B : Type 0} {first : Granted (Unit {0})} {r : Refusal} (rest : Granted B) → first ≡ Err r → (first >> rest) ≡ Err r
+pub then-ends : {B : Type 0} {first : Granted (Unit {0})} {r : Refusal} (rest : Granted B) → first ≡ Err r → (first >> rest) ≡ Err r
 unfolding ◌>>=◌ ◌>>◌
 then-ends rest e = rw e refl
 

@@ -195,7 +195,7 @@ module _ {m : Memory} {seats : List Seat} {made : List MadeArea} {files : FileLi
 -- ---- the scrap file's bytes at the end of a document
 
 -- the scrap file's bytes are the first of area 5
-scrap-part : (m : Memory) (scrap : Option ScrapFile) (file : Scrap) → scrap_size scrap ≤ length (bytes m 5) → scrap_of m scrap ≡ Some file
+pub scrap-part : (m : Memory) (scrap : Option ScrapFile) (file : Scrap) → scrap_size scrap ≤ length (bytes m 5) → scrap_of m scrap ≡ Some file
     → part (bytes m 5) 0 (scrap_size scrap) ≡ file.bytes
 unfolding scrap_of
 scrap-part m None file fits e = absurd cc

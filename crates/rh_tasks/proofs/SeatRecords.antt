@@ -26,7 +26,7 @@ module _ {m : Memory} {seats : List Seat} {made : List MadeArea} {files : FileLi
     has = all-at (HasSlot m) seats i s w.areas.slots at
 
     -- the task there
-    handle-at : (t : Task) → IsAt i t d → s.handle ≡ t.handle
+    pub handle-at : (t : Task) → IsAt i t d → s.handle ≡ t.handle
     unfolding task_of
     handle-at t there = ap (λ (x : Task). x.handle) (mapped-is (task_of m) seats i s t at there)
 

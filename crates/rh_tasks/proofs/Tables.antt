@@ -1,23 +1,61 @@
 -- What a poll does with its message, by its action.
-use Rattle.rh_tasks.proofs.Common.{◌≡◌, ◌⊎◌, inl, inr, ℕ, true, false, refl, ap, sym, subst, ◌∙◌, List, Option, if◌then◌else◌, get_or, Memory, FileList}
+use Rattle.rh_tasks.proofs.Common.{
+  ◌≡◌,
+  ◌⊎◌,
+  inl,
+  inr,
+  ℕ,
+  true,
+  false,
+  refl,
+  ap,
+  sym,
+  subst,
+  ◌∙◌,
+  List,
+  Option,
+  None,
+  Some,
+  IfSome,
+  if◌then◌else◌,
+  get_or,
+  Memory,
+  FileList,
+  Incoming,
+}
 use Rattle.rh_tasks.proofs.Common.{EventCode, User, Message, Outcome, Parcel, Desk, Task, IsReordered, Handled, ignored}
 use Rattle.rh_tasks.proofs.Common.{Bool, Seat, MadeArea, Kept, task_of, desk_of, IsWorld, IsFor, Sits, mapped-is}
 use Rattle.rh_defs.specs.declared.message.Body.{Body}
-use Rattle.rh_defs.specs.declared.message.Body.TheVariants.{DataSave, DataSaveAck, DataLoad, DataLoadAck, RamFetch, RamTransmit}
+use Rattle.rh_defs.specs.declared.message.Body.TheVariants.{DataSave, DataSaveAck, DataLoad, DataLoadAck, RamFetch, RamTransmit, Other}
 use Rattle.rh_defs.specs.declared.message.EventCode.TheVariants.{Recorded, Acknowledge}
 use Rattle.rh_defs.specs.declared.message.FileData.{FileData}
 use Rattle.rh_defs.specs.declared.transfer_action.SendAction.{SendAction}
 use Rattle.rh_defs.specs.declared.transfer_action.TakeAction.{TakeAction}
+use Rattle.rh_defs.specs.declared.transfer_action.TakeAction.TheVariants as take
+use Rattle.rh_defs.specs.declared.reply.Outcome.TheVariants.{Taken}
+use Rattle.rh_defs.specs.RawTasks.{is_raw, is_raw_at}
 use Rattle.rh_defs.specs.Sender as sender
 use Rattle.rh_defs.specs.Receiver as receiver
 use Rattle.rh_defs.specs.OutgoingEvents.{perform_send, fail_sending}
 use Rattle.rh_defs.specs.IncomingEvents.{is_deaf, perform_take, ack_back}
 use Rattle.rh_defs.specs.Transfer.{answers_none, delivered, bounced_to, handled}
+use Rattle.rh_ram.specs.Due.{is_take_due}
+use Rattle.rh_tasks.specs.Inner.PollSteps.{received_as}
 use Rattle.rh_tasks.proofs.Places.{mapped-inside}
 
 -- what was done gives the desk, but for the order of messages to different tasks, and the outcome
 abbrev As : Handled → Desk → Outcome → Type 0
 As after last outcome = (outcome ≡ after.1) × IsReordered after.0 last
+
+-- an action that is due is due whoever sends
+pub flagged-due : (raw : Bool) (o : Option TakeAction) (records : List Incoming) → IfSome o (λ a. is_take_due a records ≡ true)
+    → IfSome (receiver.flagged raw o) (λ a. is_take_due a records ≡ true)
+flagged-due raw None records h = tt
+flagged-due raw (Some (take.Claim a)) records h = h
+flagged-due raw (Some (take.Append a)) records h = h
+flagged-due raw (Some (take.AskForFile f)) records h = h
+flagged-due raw (Some (take.LoadFile a)) records h = h
+flagged-due raw (Some (take.Release a)) records h = h
 
 -- ---- by code
 
@@ -42,6 +80,17 @@ module _ {d : Desk} {i : ℕ} {t : Task} {p : Parcel} {message : Message} (for :
   back-as : {last : Desk} {outcome : Outcome} {b : Body} → message.body ≡ b → As (bounced_to d t p b) last outcome
       → As (bounced_to d t p p.message.body) last outcome
   back-as {last} {outcome} e h = subst (λ b. As (bounced_to d t p b) last outcome) (sym (ap (λ (x : Message). x.body) for.message_is ∙ e)) h
+
+  -- a message of another kind came, or came back
+  pub other-came : {last : Desk} {outcome : Outcome} {other : ℕ × List ℕ} → message.body ≡ Other other → As (ignored d) last outcome
+      → As (delivered d t p p.message.body) last outcome
+  unfolding delivered
+  other-came e h = delivered-as e h
+
+  pub other-back : {last : Desk} {outcome : Outcome} {other : ℕ × List ℕ} → message.body ≡ Other other → As (ignored d) last outcome
+      → As (bounced_to d t p p.message.body) last outcome
+  unfolding bounced_to
+  other-back e h = back-as e h
 
   -- ---- messages that came back
 
@@ -96,15 +145,31 @@ module _ {m : Memory} {seats : List Seat} {made : List MadeArea} {files : FileLi
       → As (perform_take d t a) last outcome → As (perform_take d t (f p.message t)) last outcome
   takes {last} {outcome} f q h = subst (λ x. As (perform_take d t x) last outcome) (q ∙ meant f) h
 
+  -- ---- whether the task has code of its own
+
+  manner-is : is_raw s.manner ≡ is_raw t.manner
+  unfolding task_of
+  manner-is = meant (λ y z. is_raw z.manner)
+
+  pub taken-raw : {last : Desk} (code : EventCode) → is_raw s.manner ≡ true → IsReordered d last → As (received_as d t p code) last Taken
+  taken-raw {last} code q r =
+      subst (λ b. As (if b then (d, Taken) else handled d t p code) last Taken) (sym q ∙ manner-is) (refl, r)
+
+  pub taken-played : {last : Desk} (code : EventCode) {said : Outcome} → is_raw s.manner ≡ false → As (handled d t p code) last said
+      → As (received_as d t p code) last said
+  taken-played {last} code {said} q h =
+      subst (λ b. As (if b then (d, Taken) else handled d t p code) last said) (sym q ∙ manner-is) h
+
   -- ---- messages that came
 
-  pub save-as : {last : Desk} {outcome : Outcome} {file : FileData} {deaf : Bool} {a : Option TakeAction} → message.body ≡ DataSave file
-      → deaf ≡ is_deaf s.manner → a ≡ receiver.on_save deaf message.from message.my_ref s.taking → As (perform_take d t a) last outcome
-      → As (delivered d t p p.message.body) last outcome
+  pub save-as : {last : Desk} {outcome : Outcome} {file : FileData} {deaf raw : Bool} {offer a : Option TakeAction} → message.body ≡ DataSave file
+      → deaf ≡ is_deaf s.manner → offer ≡ receiver.on_save deaf message.from message.my_ref s.taking → raw ≡ is_raw_at message.from d
+      → a ≡ receiver.flagged raw offer → As (perform_take d t a) last outcome → As (delivered d t p p.message.body) last outcome
   unfolding delivered task_of
-  save-as e k q h =
-      delivered-as for e (takes (λ y z. receiver.on_save (is_deaf z.manner) y.from y.my_ref z.taking)
-      (q ∙ ap (λ b. receiver.on_save b message.from message.my_ref s.taking) k) h)
+  save-as {offer = offer} e k q r f h =
+      delivered-as for e (takes (λ y z. receiver.flagged (is_raw_at y.from d) (receiver.on_save (is_deaf z.manner) y.from y.my_ref z.taking))
+      (f ∙ ap (λ b. receiver.flagged b offer) r ∙ ap (receiver.flagged (is_raw_at message.from d))
+      (q ∙ ap (λ b. receiver.on_save b message.from message.my_ref s.taking) k)) h)
 
   pub ack-as : {last : Desk} {outcome : Outcome} {file : FileData} {a : Option SendAction} → message.body ≡ DataSaveAck file
       → a ≡ sender.on_ack message.from message.my_ref message.your_ref s.sending → As (perform_send d t a) last outcome

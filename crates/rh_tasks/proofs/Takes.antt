@@ -4,8 +4,9 @@ use Rattle.rh_tasks.proofs.Common.{option_map, get_or, set, length-map, Memory, 
 use Rattle.rh_tasks.proofs.Common.{with_task, with_delivered, IsDesk, IsReordered, IsSlotIn, Answers, Chains, HasEntry, SpellsPostIn, Seat, MadeArea, ScrapFile}
 use Rattle.rh_tasks.proofs.Common.{Kept, the_module, scrap_size, HasSlot, task_of, desk_of, IsWorld, IsAt, Sits, set_same, all-at, cons, mapped-is, Moves}
 use Rattle.rh_defs.specs.declared.message.Event.{Event}
-use Rattle.rh_defs.proofs.Desks.{with_delivered-keeps}
-use Rattle.rh_defs.proofs.PostKeeps.{post_poll-kept}
+use Rattle.rh_defs.specs.Post.{put_down}
+use Rattle.rh_defs.proofs.Desks.{answered-keeps, with_delivered-keeps}
+use Rattle.rh_defs.proofs.PostKeeps.{post_poll-kept, put_down-sent, same-sent}
 use Rattle.rh_wimp.specs.QueueCalls.{LeavesChains}
 use Rattle.rh_wimp.specs.Chains.{event_of}
 use Rattle.rh_tasks.specs.View.{kept_file}
@@ -42,9 +43,9 @@ module _ {m : Memory} {seats : List Seat} {made : List MadeArea} {files : FileLi
     event-is event a t there =
         a d.post (is-post w) ∙ ap (λ h. option_map event_of (post_poll h d.post).1) (same-handle t there)
 
-    module _ {n : Memory} {k : Chains} (l : LeavesChains m n the_module kept.queue k (λ post. (post_poll s.handle post).0)) where
+    module _ {n : Memory} {k : Chains} {next : Post → Post} (l : LeavesChains m n the_module kept.queue k next) where
       abbrev pub post_after : Post
-      post_after = (post_poll s.handle d.post).0
+      post_after = next d.post
 
       abbrev pub file_after : Option ScrapFile
       file_after = kept_file post_after kept.scrap
@@ -68,30 +69,44 @@ module _ {m : Memory} {seats : List Seat} {made : List MadeArea} {files : FileLi
       unfolding after with_delivered with_task
       then-is = rw (unedited s.handle (map (task_of m) seats), scrap-kept m post_after kept.scrap) refl
 
-      after-desk : IsDesk after
-      unfolding after
-      after-desk = with_delivered-keeps post_after d (post_poll-kept s.handle d.post w.desk.post) w.desk
-
-      then-desk : IsDesk then
-      then-desk = subst IsDesk (sym then-is) after-desk
-
-      abbrev kept_then : Kept
+      abbrev pub kept_then : Kept
       kept_then = record kept { queue = k; scrap = file_after }
-
-      pub taken-world : IsWorld n seats made files kept_then
-      taken-world =
-          subst (λ (l : List Seat). IsWorld n l made files kept_then) (set_same seats i s at) (sent-world w at stays l file_after fits then-desk)
-
-      taken-here : IsReordered (with_delivered post_after d) (desk_of n seats made files kept_then)
-      unfolding after
-      taken-here =
-          subst (λ (l : List Seat). IsReordered (with_delivered post_after d) (desk_of n l made files kept_then)) (set_same seats i s at)
-          (subst (λ (x : Desk). IsReordered x (desk_of n (set seats i s) made files kept_then)) then-is (sent-alike w at stays l file_after fits then-desk))
-
-      pub taken-alike : (t : Task) → IsAt i t d → IsReordered (with_delivered (post_poll t.handle d.post).0 d) (desk_of n seats made files kept_then)
-      taken-alike t there =
-          subst (λ h. IsReordered (with_delivered (post_poll h d.post).0 d) (desk_of n seats made files kept_then)) (same-handle t there) taken-here
 
       -- the post that the queue spells then
       pub spells-after : SpellsPostIn n the_module k post_after
       spells-after = l.spells d.post (is-post w)
+
+      module _ (good : IsDesk (with_delivered (next d.post) d)) where
+        then-desk : IsDesk then
+        unfolding after
+        then-desk = subst IsDesk (sym then-is) good
+
+        pub delivered-world : IsWorld n seats made files kept_then
+        delivered-world =
+            subst (λ (l : List Seat). IsWorld n l made files kept_then) (set_same seats i s at) (sent-world w at stays l file_after fits then-desk)
+
+        pub delivered-here : IsReordered (with_delivered post_after d) (desk_of n seats made files kept_then)
+        unfolding after
+        delivered-here =
+            subst (λ (l : List Seat). IsReordered (with_delivered post_after d) (desk_of n l made files kept_then)) (set_same seats i s at)
+            (subst (λ (x : Desk). IsReordered x (desk_of n (set seats i s) made files kept_then)) then-is
+            (sent-alike w at stays l file_after fits then-desk))
+
+    -- ---- a poll
+
+    good-poll : IsDesk (with_delivered (post_poll s.handle d.post).0 d)
+    good-poll = with_delivered-keeps (post_poll s.handle d.post).0 d (post_poll-kept s.handle d.post w.desk.post) w.desk
+
+    module _ {n : Memory} {k : Chains} (l : LeavesChains m n the_module kept.queue k (λ post. (post_poll s.handle post).0)) where
+      pub taken-world : IsWorld n seats made files (kept_then l)
+      taken-world = delivered-world l good-poll
+
+      pub taken-alike : (t : Task) → IsAt i t d → IsReordered (with_delivered (post_poll t.handle d.post).0 d) (desk_of n seats made files (kept_then l))
+      taken-alike t there =
+          subst (λ h. IsReordered (with_delivered (post_poll h d.post).0 d) (desk_of n seats made files (kept_then l))) (same-handle t there)
+          (delivered-here l good-poll)
+
+    -- ---- what a task holds is put down
+
+    pub good-answer : IsDesk (with_delivered (put_down s.handle d.post) d)
+    good-answer = answered-keeps (put_down s.handle d.post) d (put_down-sent 0 s.handle d.post d.post (same-sent 0 d.post w.desk.post)) w.desk

@@ -4,12 +4,13 @@ use Rattle.rh_tasks.proofs.Common.{length, Option, Some, None, Ok, Err, is_some,
 use Rattle.rh_tasks.proofs.Common.{eqb-true, part, Memory, bytes, FileList, Refusal, NoTask, BadRange, Granted, found_or, no_answer, total, bytes_of, size_of}
 use Rattle.rh_tasks.proofs.Common.{heap_start, holds, slot_start, weight, flex_place, buffer_at, overlap, Desk, Task, task_at, free_pages, with_slot}
 use Rattle.rh_tasks.proofs.Common.{part-drop, length-part, IsRoomed, IsSlotIn, slot_in, LeavesSlotIn, Standing, Seat, MadeArea, Kept, task_of, desk_of}
-use Rattle.rh_tasks.proofs.Common.{slot_area}
+use Rattle.rh_tasks.proofs.Common.{◌<◌, length-map, slot_area}
 use Rattle.rh_tasks.proofs.Common.{AreDistinct, IsWorld, bytes_held, begins, ends, past, stops, lt-true, slid, changed, Sits, avoids-at, task-found}
+use Rattle.std.proofs.lemmas.List.{get_or_default}
 use Rattle.std.proofs.lemmas.List.Quantifiers.{position-Some}
 use Rattle.rh_defs.specs.Slot as plain
 use Rattle.rh_defs.specs.SlotImage.{SpellsSlot, heap_place}
-use Rattle.rh_defs.specs.Places.{written_in}
+use Rattle.rh_defs.specs.Places.{bytes_around, bytes_in_heap, written_in}
 use Rattle.rh_defs.proofs.BytesLaws.{part-part}
 use Rattle.rh_defs.proofs.HeapLists.{eqb_same}
 use Rattle.rh_defs.proofs.SlotLaws.{HaveAnchors-cut}
@@ -19,7 +20,7 @@ use Rattle.rh_slot.proofs.EditLaws.{read_bytes}
 use Rattle.rh_slot.proofs.FlexLaws.{false-true}
 use Rattle.rh_slot.proofs.Ranges.{cut_found, cut_bytes}
 use Rattle.rh_slot.proofs.ReachLaws.{Holder, flex_holder, heap_holder, holder}
-use Rattle.rh_tasks.specs.TransferBlock.{bytes_around, bytes_in_heap, transferred}
+use Rattle.rh_tasks.specs.TransferBlock.{transferred}
 use Rattle.rh_tasks.proofs.Finding.{find-none, find-map}
 use Rattle.rh_tasks.proofs.Slides.{at-task, seat-slot, seat-at, slides-desk, slides-world}
 
@@ -106,6 +107,16 @@ seat-of seats h i s e is =
     let f = position-Some (λ (x : Seat). x.handle == h) seats i s e in
     record { at = record { inside = f.0; is = sym is }; handle = eqb-true _ _ (subst P (sym is) f.1) }
 
+-- the same of a place that nothing was read at
+pub seat-there : (seats : List Seat) (h i : ℕ) (other : Seat) → position (λ (x : Seat). x.handle == h) seats ≡ Some i → SeatOf seats h i (get_or seats i other)
+seat-there seats h i other e =
+    let f = position-Some (λ (x : Seat). x.handle == h) seats i other e in
+    seat-of seats h i (get_or seats i other) e (get_or_default seats i other (get_or seats i other) f.0)
+
+-- its task is one of the desk's
+pub task-inside : (m : Memory) {seats : List Seat} {i : ℕ} {s : Seat} → Sits seats i s → i < length (map (task_of m) seats)
+task-inside m {seats} at = omega (arith, at.inside, length-map seats (task_of m))
+
 -- what a place that is asked for says, where there may be none
 pub place-is : {i : ℕ} (e : Refusal) (o : Option ℕ) {p : Option ℕ} → Ok i ≡ ok_or o e → o ≡ p → p ≡ Some i
 place-is r (Some k) e f = sym f ∙ (let same : k ≡ _ = cc in ap (λ (x : ℕ). Some x) same)
@@ -126,7 +137,7 @@ same-member f (z ∷ xs) (suc i) zero x y all at bt q =
 same-member f (z ∷ xs) (suc i) (suc j) x y all at bt q =
     same-member f xs i j x y all.1 (record { inside = omega (arith, at.inside); is = at.is }) (record { inside = omega (arith, bt.inside); is = bt.is }) q
 
-ok-same : {A : Type 0} {x y : A} → (let g : Granted A = Ok x in g) ≡ Ok y → x ≡ y
+pub ok-same : {A : Type 0} {x y : A} → (let g : Granted A = Ok x in g) ≡ Ok y → x ≡ y
 ok-same e = cc
 
 -- ---- the world

@@ -4,5 +4,6 @@ pub mod ItemsByOwner
 pub mod MadeNumbers
 pub mod Nouns
 pub mod PollSteps
+pub mod RawSteps
 pub mod Saves
 pub mod Start

@@ -9,6 +9,7 @@ use Rattle.rh_defs.specs.Chain.{Granted, ◌>>=◌, ◌>>◌, refuse_if, found_o
 use Rattle.rh_defs.specs.Heap.{bytes_of, largest, free_bytes}
 use Rattle.rh_defs.specs.Slot.{holds}
 use Rattle.rh_defs.specs.Messages.{Parcel}
+use Rattle.rh_defs.specs.Places.{bytes_held}
 use Rattle.rh_defs.specs.Post.{post_poll}
 use Rattle.rh_defs.specs.Desk.{Desk, Task, Made, Scrap, named, task_at, task_pages}
 use Rattle.rh_defs.specs.Commands.{own_block}
@@ -17,7 +18,6 @@ use Rattle.rh_tasks.specs.declared.sights.LiveTask.{LiveTask}
 use Rattle.rh_tasks.specs.declared.sights.MadeSight.{MadeSight}
 use Rattle.rh_tasks.specs.declared.scrap.ScrapFile.{ScrapFile}
 use Rattle.rh_tasks.specs.WorldLists.{segment_items_at}
-use Rattle.rh_tasks.specs.TransferBlock.{bytes_held}
 use Rattle.rh_tasks.specs.View.{last_of}
 
 -- ---- a task
@@ -59,6 +59,17 @@ segments_in d handle place = do
 unfoldable pub slot_bytes : Desk → ℕ → ℕ → ℕ → Granted (List ℕ)
 slot_bytes d handle address n = do
   t ← found_or (task_at handle d) NoTask
+  refuse_if (not (holds address n t.slot)) BadRange
+  Ok (bytes_held address n t.slot)
+
+-- how many bytes are asked for at an address of the slot of the task with the name, where one live block has them
+abbrev pub size_read : Desk → List ℕ → ℕ → ℕ → Granted ℕ
+size_read d name address n = named name d >>= λ t. refuse_if (not (holds address n t.slot)) BadRange >> Ok n
+
+-- n bytes at an address of the slot of the task with the name
+unfoldable pub bytes_read : Desk → List ℕ → ℕ → ℕ → Granted (List ℕ)
+bytes_read d name address n = do
+  t ← named name d
   refuse_if (not (holds address n t.slot)) BadRange
   Ok (bytes_held address n t.slot)
 

@@ -25,7 +25,7 @@ pub(crate) fn is_deaf(manner: Manner) -> bool
 {
     match manner {
         Manner::Deaf => true,
-        Manner::Plain | Manner::File => false,
+        Manner::Plain | Manner::File | Manner::Raw => false,
     }
 }
 

@@ -102,7 +102,7 @@ impl<S: Store, F: NamedFiles> World<S, F> {
     }
 
     /// Releases a transfer's buffer, where one begins at the address.
-    fn drop_buffer(&mut self, i: usize, buffer: u32)
+    pub(crate) fn drop_buffer(&mut self, i: usize, buffer: u32)
         requires { i < length self.old.desk.tasks }
         ensures { (t : Task) → IsAt i t self.old.desk
             → self.new.desk ≡ with_task t.handle (λ t. record t { slot = without_buffer buffer t.slot }) self.old.desk }

@@ -1,6 +1,6 @@
 //! What is asked of the desk: sums, lists whole and item by item, and bytes.
 
-ghost use Rattle.std.specs.Prelude.{◌≡◌, ◌≤◌, ◌<◌, true, Ok, Err, IfErr, IfOk, OnOk, length, map, slice_get};
+ghost use Rattle.std.specs.Prelude.{◌≡◌, ◌≤◌, ◌<◌, ℕ, List, true, Ok, Err, IfErr, IfOk, OnOk, length, map, slice_get};
 ghost use Rattle.std.specs.List.{AllByRecursion};
 ghost use Rattle.std.specs.Option.{option_map};
 ghost use Rattle.std.specs.Result.{MatchResult};
@@ -15,6 +15,7 @@ ghost use Rattle.rh_tasks.specs.Answer.{first_told};
 ghost use Rattle.rh_tasks.specs.View.{pages_at, HasAreas};
 ghost use Rattle.rh_tasks.specs.WorldItems.{area_item_of, segment_item_of, placed_item, IsSmallSegment};
 ghost use Rattle.rh_tasks.specs.Inner.ItemsByOwner.{items_in, slot_items};
+ghost use Rattle.rh_tasks.specs.Sights.{bytes_read, size_read};
 ghost use Rattle.rh_tasks.specs.WorldLists.{blocks_of, segments_of};
 ghost use Rattle.rh_defs.specs.declared.sizes.TheConstants.{MAX_AREAS, SEGMENTS_AT_ONCE};
 
@@ -253,7 +254,21 @@ impl<S: Store, F: NamedFiles> World<S, F> {
         Ok((seat.handle, seat.sending.records(), seat.taking.records()))
     }
 
-    /// The numbers of a question's answer: NoName, NoBlock.
+    /// How many bytes were asked for at an address of the task's slot; NoName, or BadRange where they aren't whole
+    /// inside one live block.
+    pub fn read_size(&self, name: &Name, address: u32, size: u32) -> Result<u32, Refusal>
+        ensures size { result ≡ size_read self.now.desk name.now address size }
+        ensures whole { IfOk result (λ n. (bytes : List ℕ) → bytes_read self.now.desk name.now address size ≡ Ok bytes
+            → length bytes ≡ size) }
+    {
+        let slot = slot_of(&self.seats, name)?;
+        if !slot.inside(&self.store, address as usize, size as usize) {
+            return Err(Refusal::BadRange);
+        }
+        Ok(size)
+    }
+
+    /// The numbers of a question's answer: NoName, NoBlock, BadRange.
     pub fn answer_question(&self, question: &Question) -> Result<Numbers, Refusal>
         requires { can_be_asked question.now ≡ true }
         ensures { result ≡ first_told (asked self.now.desk question.now) }
@@ -261,6 +276,14 @@ impl<S: Store, F: NamedFiles> World<S, F> {
         match question {
             Question::Show { name, anchor } => {
                 let size = self.show(name, *anchor, 0, &mut [])?;
+                Ok(Numbers::Shown { size })
+            }
+            Question::Read {
+                name,
+                address,
+                size,
+            } => {
+                let size = self.read_size(name, *address, *size)?;
                 Ok(Numbers::Shown { size })
             }
             Question::Blocks { name } => Ok(Numbers::BlockCount(self.blocks(name, 0)?.0)),

@@ -9,19 +9,48 @@ ghost use Rattle.rh_defs.specs.Order.{IsReordered};
 ghost use Rattle.rh_defs.specs.Post.{post_poll};
 ghost use Rattle.rh_defs.specs.Range.{in_range};
 ghost use Rattle.rh_defs.specs.Commands.{poll as poll_on};
+ghost use Rattle.rh_defs.specs.AnyMessage.{read_body as read_body_on};
+ghost use Rattle.rh_defs.specs.RawTasks.{is_raw_at as is_raw_at_on};
+ghost use Rattle.rh_defs.specs.Receiver as receiver;
 ghost use Rattle.rh_defs.specs.Transfer.{delivered, bounced_to, handled};
 ghost use Rattle.rh_wimp.specs.Chains.{event_of};
 ghost use Rattle.rh_tasks.specs.Inner.CommandAnswers.{GivesAlike};
-ghost use Rattle.rh_tasks.specs.Inner.PollSteps.{IsAt, IsFor, Handles};
+ghost use Rattle.rh_tasks.specs.Inner.PollSteps.{IsAt, IsFor, Handles, received_as};
 
 use crate::accepting::is_deaf;
 use crate::module_area::MODULE;
 use crate::named_files::NamedFiles;
+use crate::outgoing::with_handle;
 use crate::scrap::kept_scrap;
 use crate::seats::find;
 use crate::world::World;
-use rh_defs::{Body, Event, EventCode, Message, Name, Outcome, Refusal, Reply};
+use rh_defs::{
+    Body, Claim, Event, EventCode, Handle, Message, Name, Outcome, Refusal, Reply, TakeAction,
+};
 use rh_store::Store;
+use rh_wimp::read_body;
+
+/// The message as a task that the desk plays reads it.
+fn as_read(message: Message) -> Message
+    ensures { result ≡ record message { body = read_body_on message.body } }
+{
+    Message {
+        from: message.from,
+        my_ref: message.my_ref,
+        your_ref: message.your_ref,
+        body: read_body(message.body),
+    }
+}
+
+/// The action, where the task that offers has code of its own or hasn't.
+fn flagged(raw: bool, action: Option<TakeAction>) -> Option<TakeAction>
+    ensures { result ≡ receiver.flagged raw action }
+{
+    match action {
+        Some(TakeAction::Claim(claim)) => Some(TakeAction::Claim(Claim { raw, ..claim })),
+        other => other,
+    }
+}
 
 impl<S: Store, F: NamedFiles> World<S, F> {
     /// Bounces the message that the task holds, and takes and handles the next one for it (Wimp_Poll): NoName.
@@ -33,12 +62,13 @@ impl<S: Store, F: NamedFiles> World<S, F> {
         let Some(event) = self.take_event(i) else {
             return Ok(Reply::NoEvent);
         };
-        let outcome = self.handle(i, event.code, &event.message);
+        let message = as_read(event.message);
+        let outcome = self.receive(i, event.code, &message);
         Ok(Reply::Event {
             code: event.code,
-            action: event.message.body.action(),
-            my_ref: event.message.my_ref,
-            your_ref: event.message.your_ref,
+            action: message.body.action(),
+            my_ref: message.my_ref,
+            your_ref: message.your_ref,
             outcome,
         })
     }
@@ -56,6 +86,30 @@ impl<S: Store, F: NamedFiles> World<S, F> {
         let event = self.queue.poll(&mut self.store, MODULE, seat.handle);
         self.scrap = kept_scrap(&self.store, &self.queue, self.scrap);
         event
+    }
+
+    /// Whether the live task with the handle has code of its own.
+    fn is_raw_at(&self, handle: Handle) -> bool
+        ensures { result ≡ is_raw_at_on handle self.now.desk }
+    {
+        let Some(i) = with_handle(&self.seats, handle) else {
+            return false;
+        };
+        let seat = &self.seats[i];
+        seat.is_raw()
+    }
+
+    /// What is done with a message: a task with code of its own is handed it.
+    fn receive(&mut self, i: usize, code: EventCode, message: &Message) -> Outcome
+        requires { i < length self.old.desk.tasks }
+        ensures { (t : Task) (m : Parcel) → IsFor i t self.old.desk m message.now
+            → Handles (received_as self.old.desk t m code) self.new result }
+    {
+        let seat = &self.seats[i];
+        if seat.is_raw() {
+            return Outcome::Taken;
+        }
+        self.handle(i, code, message)
     }
 
     /// What is done with a message, by its code.
@@ -80,7 +134,8 @@ impl<S: Store, F: NamedFiles> World<S, F> {
         let (from, my_ref, your_ref) = (message.from, message.my_ref, message.your_ref);
         match &message.body {
             Body::DataSave(_) => {
-                let action = seat.taking.on_save(is_deaf(seat.manner), from, my_ref);
+                let offer = seat.taking.on_save(is_deaf(seat.manner), from, my_ref);
+                let action = flagged(self.is_raw_at(from), offer);
                 self.perform_take(i, action)
             }
             Body::DataSaveAck(_) => {
@@ -110,6 +165,7 @@ impl<S: Store, F: NamedFiles> World<S, F> {
                     .on_transmit(seat.buffer, from, my_ref, your_ref, *buffer, *written);
                 self.perform_take(i, action)
             }
+            Body::Other(_) => Outcome::Ignored,
         }
     }
 
@@ -131,6 +187,7 @@ impl<S: Store, F: NamedFiles> World<S, F> {
                 let action = seat.taking.on_bounce(my_ref);
                 self.perform_take(i, action)
             }
+            Body::Other(_) => Outcome::Ignored,
         }
     }
 }

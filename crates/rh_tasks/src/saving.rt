@@ -13,7 +13,7 @@ ghost use Rattle.rh_tasks.specs.Finding.{looked};
 ghost use Rattle.rh_tasks.specs.Inner.Saves.{CanOffer, HasHandle, source_block};
 ghost use Rattle.rh_tasks.specs.View.{is_named, HasSlot};
 
-use crate::letters::send;
+use crate::letters::{refused_after, send};
 use crate::named_files::NamedFiles;
 use crate::seat::Seats;
 use crate::seats::find;
@@ -77,7 +77,7 @@ fn pathname(leaf: &Leaf) -> Pathname
 }
 
 impl<S: Store, F: NamedFiles> World<S, F> {
-    /// Offers a block to another task: NoName, NoBlock, Busy, NoTask, NoRefs, QueueFull, NoRoom.
+    /// Offers a block to another task: NoName, NoBlock, Busy, NoTask, NoRefs, QueueFull, NoRoom, WrongManner.
     pub(crate) fn save(
         &mut self,
         name: &Name,
@@ -92,6 +92,10 @@ impl<S: Store, F: NamedFiles> World<S, F> {
         let recipient = recipient_of(&self.seats, to)?;
         let seat = &mut self.seats[source.place];
         let letter = save_letter(seat.handle, recipient, source.size, pathname(leaf));
+        if seat.is_raw() {
+            let refusal = Refusal::WrongManner;
+            return Err(refused_after(&self.store, &self.queue, &letter, refusal));
+        }
         let my_ref = send(&mut self.store, &mut self.queue, seat, letter)?;
         seat.sending.offered(my_ref, recipient, anchor);
         Ok(Reply::Sent(my_ref))

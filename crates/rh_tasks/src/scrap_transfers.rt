@@ -117,7 +117,7 @@ impl<S: Store, F: NamedFiles> World<S, F> {
     }
 
     /// Makes area 5 so many pages longer.
-    fn widen_scrap(&mut self, more: usize)
+    pub(crate) fn widen_scrap(&mut self, more: usize)
         requires { more ≤ free_pages self.old.desk }
         ensures { self.new.desk ≡ wider more self.old.desk }
     {
@@ -126,7 +126,7 @@ impl<S: Store, F: NamedFiles> World<S, F> {
 
     /// The block at the anchor becomes the scrap file, for which area 5 has room and which the DataLoad with the ref
     /// tells.
-    fn fill_scrap(&mut self, i: usize, anchor: Anchor, size: u32, load: Ref)
+    pub(crate) fn fill_scrap(&mut self, i: usize, anchor: Anchor, size: u32, load: Ref)
         requires place { i < length self.old.desk.tasks }
         requires room { size ≤ page_size * slice_index self.old.desk.areas scrap_area }
         requires block { (t : Task) → IsAt i t self.old.desk → slot_size anchor t.slot ≡ Ok size }

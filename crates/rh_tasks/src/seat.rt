@@ -3,6 +3,7 @@
 ghost use Rattle.std.specs.Prelude.{◌≡◌, ◌||◌};
 ghost use Rattle.std.specs.List.{list_any};
 ghost use Rattle.rh_defs.specs.Transfer.{answers_none as answers_none_on};
+ghost use Rattle.rh_defs.specs.RawTasks.{is_raw as is_raw_on};
 ghost use Rattle.rh_defs.specs.Records.{is_source, is_document, is_buffer_of};
 
 use rh_defs::sizes::MAX_TASKS;
@@ -61,6 +62,13 @@ impl Default for Seat {
 }
 
 impl Seat {
+    /// Whether the task has code of its own: it was started with `raw`, and the desk plays nothing of it.
+    pub fn is_raw(&self) -> bool
+        ensures { result ≡ is_raw_on self.now.manner }
+    {
+        matches!(self.manner, Manner::Raw)
+    }
+
     /// Whether the task answers no fetch: it was started with `file`.
     pub fn answers_none(&self) -> bool
         ensures { result ≡ answers_none_on self.now.manner }

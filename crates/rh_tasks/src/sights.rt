@@ -1,15 +1,19 @@
 //! What is read of the desk beside what its questions answer: tasks, made areas and messages as they stand, and
 //! bytes of blocks. Nothing changes, and no memory is taken.
 
-ghost use Rattle.std.specs.Prelude.{◌≡◌, ◌+◌, ◌≤◌, ◌↔◌, Ok, Err, IfErr, IfOk, IfSome, IsTrue, OnOk, length, slice_get};
+ghost use Rattle.std.specs.Prelude.{◌≡◌, ◌+◌, ◌<◌, ◌≤◌, ◌↔◌, Some, Ok, Err, IfErr, IfOk, IfSome, IsTrue, OnOk, drop};
+ghost use Rattle.std.specs.Prelude.{length, slice_get, take};
 ghost use Rattle.std.specs.Option.{option_map};
 ghost use Rattle.std.specs.Result.{MatchResult};
 ghost use Rattle.rh_defs.specs.Desk.{Task, module_start, most_made, most_tasks, next_ref as next_ref_on, task_at};
 ghost use Rattle.rh_defs.specs.Messages.{Parcel};
+ghost use Rattle.rh_defs.specs.RawTasks.{handed_parts, handed_to, next_taken};
 ghost use Rattle.rh_defs.specs.Records.{most_records};
+ghost use Rattle.rh_defs.specs.Text.{taken_of};
 ghost use Rattle.rh_wimp.specs.QueueItems.{message_items, with_message};
+ghost use Rattle.rh_tasks.specs.Inner.PollSteps.{IsAt};
 ghost use Rattle.rh_tasks.specs.WorldLists.{items_at};
-ghost use Rattle.rh_tasks.specs.Sights.{IsSeen, blocks_in, scrap_file_of, made_of_sight, module_shown};
+ghost use Rattle.rh_tasks.specs.Sights.{IsSeen, blocks_in, bytes_read, scrap_file_of, made_of_sight, module_shown};
 ghost use Rattle.rh_tasks.specs.Sights.{next_message as next_message_on, segments_in, slot_bytes};
 
 use crate::listing::{HeapSums, pages_in, segment_items};
@@ -18,7 +22,7 @@ use crate::named_files::NamedFiles;
 use crate::outgoing::with_handle;
 use crate::scrap::ScrapFile;
 use crate::seat::SentLetter;
-use crate::seats::find;
+use crate::seats::{find, slot_of};
 use crate::world::World;
 use arrayvec::ArrayVec;
 use rh_defs::sizes::{
@@ -26,8 +30,8 @@ use rh_defs::sizes::{
     SLOT_START,
 };
 use rh_defs::{
-    BlockItem, EventCode, Handle, Incoming, Manner, MessageItem, Name, Outgoing, Refusal,
-    SegmentItem,
+    BlockItem, Command, Data, EventCode, Handle, Incoming, Manner, MessageItem, Name, Outgoing,
+    Refusal, SegmentItem,
 };
 use rh_store::Store;
 
@@ -163,6 +167,46 @@ impl<S: Store, F: NamedFiles> World<S, F> {
         Ok(())
     }
 
+    /// Fills a buffer that was lent with the bytes at an address of the task's slot; NoName, or BadRange where they
+    /// aren't whole inside one live block of the C heap or one flex block.
+    pub fn read(&self, name: &Name, address: u32, to: &mut [u8]) -> Result<(), Refusal>
+        ensures { MatchResult (bytes_read self.now.desk name.now address (length to.old))
+            (λ bytes. (result ≡ Ok tt) × (to.new ≡ bytes)) (λ e. (result ≡ Err e) × (to.new ≡ to.old)) }
+    {
+        let slot = slot_of(&self.seats, name)?;
+        let address = address as usize;
+        if !slot.inside(&self.store, address, to.len()) {
+            return Err(Refusal::BadRange);
+        }
+        self.store.copy_out(slot.area, address - SLOT_START, to);
+        Ok(())
+    }
+
+    /// Fills a buffer that was lent with a part of the `size` bytes at an address of the task's slot, from an offset
+    /// on; NoName, or BadRange where the `size` bytes aren't whole inside one live block.
+    pub fn read_part(
+        &self,
+        name: &Name,
+        address: u32,
+        size: u32,
+        offset: u32,
+        to: &mut [u8],
+    ) -> Result<(), Refusal>
+        requires { offset + length to.old ≤ size }
+        ensures { MatchResult (bytes_read self.now.desk name.now address size)
+            (λ bytes. (result ≡ Ok tt) × (to.new ≡ take (length to.old) (drop offset bytes)))
+            (λ e. (result ≡ Err e) × (to.new ≡ to.old)) }
+    {
+        let slot = slot_of(&self.seats, name)?;
+        let address = address as usize;
+        if !slot.inside(&self.store, address, size as usize) {
+            return Err(Refusal::BadRange);
+        }
+        let begin = address - SLOT_START + offset as usize;
+        self.store.copy_out(slot.area, begin, to);
+        Ok(())
+    }
+
     /// The length of the module area's heap in bytes, which is the area's.
     pub fn module_end(&self) -> u32
         ensures { result ≡ self.now.desk.post.heap.end }
@@ -221,6 +265,40 @@ impl<S: Store, F: NamedFiles> World<S, F> {
         let seat = &self.seats[i];
         let code = self.queue.peek(&self.store, MODULE, seat.handle, block);
         Ok(code)
+    }
+
+    /// What a command would hand to a task with code of its own now: the sender's handle, and the message's data. None
+    /// where it would hand out nothing.
+    pub fn handed(&self, command: &Command) -> Option<(Handle, Data)>
+        ensures { result ≡ option_map handed_parts (taken_of self.now.desk command.now) }
+    {
+        match command {
+            Command::Poll { name } => self.handed_to(name),
+            _ => None,
+        }
+    }
+
+    /// What a poll of the task with the name would hand to it, where it has code of its own.
+    fn handed_to(&self, name: &Name) -> Option<(Handle, Data)>
+        ensures { result ≡ option_map handed_parts (handed_to name.now self.now.desk) }
+    {
+        match find(&self.seats, name) {
+            Ok(i) => self.handed_at(i),
+            Err(_) => None,
+        }
+    }
+
+    /// What a poll of the task at a place would hand to it, where it has code of its own.
+    fn handed_at(&self, i: usize) -> Option<(Handle, Data)>
+        requires { i < length self.now.desk.tasks }
+        ensures { (t : Task) → IsAt i t self.now.desk
+            → result ≡ option_map handed_parts (next_taken self.now.desk (Some t)) }
+    {
+        let seat = &self.seats[i];
+        if !seat.is_raw() {
+            return None;
+        }
+        self.queue.next_parts(&self.store, MODULE, seat.handle)
     }
 
     /// The ref of the next message; 2^32 where all were given.

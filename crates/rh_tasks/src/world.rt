@@ -152,6 +152,7 @@ impl<S: Store, F: NamedFiles> World<S, F> {
             Command::CancelIn { name, id } => answer(self.cancel_in(name, *id)),
             Command::CancelOut { name, id } => answer(self.cancel_out(name, *id)),
             Command::Repeat { name } => answer(self.repeat(name)),
+            Command::Raw(command) => answer(self.raw_command(command)),
             _ => answer(self.memory_command(command)),
         }
     }

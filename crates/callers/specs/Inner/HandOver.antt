@@ -1,5 +1,5 @@
 -- A file on its way from task 1 to task 2: what each keeps of it, and the messages between them.
-use Rattle.std.specs.Prelude.{◌≡◌, ℕ, ◌+◌, ◌*◌, ◌-◌, ◌<◌, ◌≤◌, min, nat_lt, if◌then◌else◌, List, [], ◌∷◌, Option, Some, None, codes, length, take, drop, slice_get}
+use Rattle.std.specs.Prelude.{◌≡◌, ℕ, ◌+◌, ◌*◌, ◌-◌, ◌<◌, ◌≤◌, false, min, nat_lt, if◌then◌else◌, List, [], ◌∷◌, Option, Some, None, codes, length, take, drop, slice_get}
 use Rattle.rh_defs.specs.declared.message.EventCode.TheVariants.{User, Recorded}
 use Rattle.rh_defs.specs.declared.message.Body.TheVariants.{RamFetch, RamTransmit}
 use Rattle.rh_defs.specs.declared.message.Letter.{Letter}
@@ -51,18 +51,18 @@ went_at room c n last =
 -- c bytes came, and more are asked for by the message with this ref
 abbrev pub fetching_at : ℕ → ℕ → List Incoming
 fetching_at c fetch =
-    incoming.Fetching (record { id = 1; sender = 1; anchor = 0; buffer = the_buffer; count = c; fetch = fetch }) ∷ []
+    incoming.Fetching (record { id = 1; sender = 1; anchor = 0; buffer = the_buffer; count = c; fetch = fetch; raw = false }) ∷ []
 
 -- n bytes more came in a buffer of so many
 abbrev pub taken_at : ℕ → ℕ → ℕ → ℕ → List Incoming
 taken_at room c n fetch =
     (if nat_lt n room then incoming.Done 1 0 (c + n)
-    else incoming.Fetching (record { id = 1; sender = 1; anchor = 0; buffer = the_buffer; count = c + n; fetch = fetch })) ∷ []
+    else incoming.Fetching (record { id = 1; sender = 1; anchor = 0; buffer = the_buffer; count = c + n; fetch = fetch; raw = false })) ∷ []
 
 -- what n bytes ask for that a message told of
 abbrev pub appended_at : ℕ → ℕ → ℕ → ℕ → ℕ → Append
 appended_at room c my fetch n =
-    let f : Taking = record { id = 1; sender = 1; anchor = 0; buffer = the_buffer; count = c; fetch = fetch } in
+    let f : Taking = record { id = 1; sender = 1; anchor = 0; buffer = the_buffer; count = c; fetch = fetch; raw = false } in
     record { transfer = f; n = n; next = next_of room my n f }
 
 -- the answer to that message: none to the last bytes

@@ -1,5 +1,5 @@
 -- What the steps of a poll do to the desk.
-use Rattle.std.specs.Prelude.{◌≡◌, ℕ, ◌+◌, true, length, slice_get, Some, Result, Ok, Err}
+use Rattle.std.specs.Prelude.{◌≡◌, ℕ, ◌+◌, true, length, if◌then◌else◌, slice_get, Some, Result, Ok, Err}
 use Rattle.std.specs.Result.{MatchResult}
 use Rattle.rh_defs.specs.declared.message.Letter.{Letter}
 use Rattle.rh_defs.specs.declared.message.Message.{Message}
@@ -18,6 +18,10 @@ use Rattle.rh_defs.specs.declared.transfer_action.Part.{Part}
 use Rattle.rh_defs.specs.declared.transfer_action.SaveFile.{SaveFile}
 use Rattle.rh_defs.specs.declared.transfer_action.SendAction.{SendAction}
 use Rattle.rh_defs.specs.declared.transfer_action.TakeAction.{TakeAction}
+use Rattle.rh_defs.specs.declared.message.EventCode.{EventCode}
+use Rattle.rh_defs.specs.declared.reply.Outcome.TheVariants as outcome
+use Rattle.rh_defs.specs.RawTasks.{is_raw}
+use Rattle.rh_defs.specs.Transfer.{handled}
 use Rattle.rh_defs.specs.Sender as sender
 use Rattle.rh_ram.specs.Due.{is_send_due, is_take_due}
 use Rattle.rh_tasks.specs.Shown.{Shown}
@@ -67,6 +71,10 @@ Claims h granted old new result =
     MatchResult result
     (λ a. (s : Slot) × ((granted ≡ Ok (s, a)) × (new.desk ≡ with_slot h s old.desk)))
     (λ refusal. (granted ≡ Err refusal) × (new ≡ old))
+
+-- what is done with a message that came under a code: a task with code of its own is handed it
+abbrev pub received_as : Desk → Task → Parcel → EventCode → Handled
+received_as d t m code = if is_raw t.manner then (d, outcome.Taken) else handled d t m code
 
 -- the part of a transfer's source, which has so many bytes, that goes out from the address on
 pub record IsPortion (t : Task) (a : Transmit) (address size : ℕ) (p : Part) : Type 0 where

@@ -1,10 +1,12 @@
+use Rattle.rh_tasks.proofs.Common.{Bool, true, false, not, bytes_held, holds, Slot}
 use Rattle.rh_tasks.proofs.Common.{◌≡◌, ℕ, ◌+◌, List, length, refl, sym, arith, Option, Ok, Err, Result, nat_lt, take, drop, Refusal, BadRange}
 use Rattle.rh_tasks.proofs.Common.{BlockItem, SegmentItem, Outgoing, Incoming, Granted, ◌>>=◌, ◌>>◌, refuse_if, Split, Flex, slot_block, Desk, named}
 use Rattle.rh_tasks.proofs.Common.{lt-false, err_from_is_err_and}
 use Rattle.std.specs.Result.{MatchResult}
 use Rattle.rh_defs.specs.declared.question.Numbers.TheVariants as numbers
-use Rattle.rh_defs.specs.Questions.{Bytes, shown_at, blocks_at, heap_at, status_at, show, blocks, heap, status}
+use Rattle.rh_defs.specs.Questions.{Bytes, shown_at, blocks_at, heap_at, status_at, show, read, blocks, heap, status}
 use Rattle.rh_tasks.specs.Answer.{first_told}
+use Rattle.rh_tasks.specs.Sights.{size_read}
 use Rattle.rh_tasks.proofs.Told.{read-told, say}
 use Rattle.rh_tasks.proofs.world.World.answer_question.Goals as goal
 
@@ -34,6 +36,17 @@ module _ (d : Desk) (name : List ℕ) where
           → MatchResult g (λ p. (r ≡ Ok p.0) × (new ≡ p.1)) (λ e. (r ≡ Err e) × (new ≡ old)) → say (λ n. numbers.Shown n) r ≡ first_told (show d name k)
       go (Ok p) e a = rw (a.0, e) refl
       go (Err x) e a = rw (a.0, e) refl
+
+  size-asked : (x n : ℕ) (s : Slot) → (t : Bool)
+      → say (λ k. numbers.Shown k) (refuse_if (not t) BadRange >> Ok n)
+      ≡ first_told (refuse_if (not t) BadRange >> Ok (numbers.Shown n, Bytes (bytes_held x n s)))
+  unfolding ◌>>=◌ ◌>>◌ refuse_if
+  size-asked x n s true = refl
+  size-asked x n s false = refl
+
+  range-told : (x n : ℕ) (r : Granted ℕ) → r ≡ size_read d name x n → say (λ k. numbers.Shown k) r ≡ first_told (read d name x n)
+  unfolding read
+  range-told x n = read-told _ (named name d) _ _ λ t. size-asked x n t.slot (holds x n t.slot)
 
   blocks-told : (r : Granted (ℕ × Option BlockItem)) → r ≡ blocks_at d name 0
       → say (λ (p : ℕ × Option BlockItem). numbers.BlockCount p.0) r ≡ first_told (blocks d name)
@@ -70,6 +83,15 @@ returns-in_err-length-in-Heap g c =
 pub returns-in_ok-size-in-Show : goal.returns-in_ok-size-in-Show
 returns-in_ok-size-in-Show g c =
     rw (c.in-Show.is) (show-told c.args.self.now.desk c.in-Show.name c.in-Show.anchor _ _ _ c.in_ok-size-in-Show.ensures)
+
+pub returns-in_err-size-in-Read : goal.returns-in_err-size-in-Read
+returns-in_err-size-in-Read g c =
+    let p = err_from_is_err_and c.from_residual-in_err-size-in-Read.result c.from_residual-in_err-size-in-Read.ensures.1 in
+    rw (p.1, p.2, c.in-Read.is) (range-told c.args.self.now.desk c.in-Read.name c.in-Read.address c.in-Read.size _ c.in_err-size-in-Read.ensures.size)
+
+pub returns-in_ok-size-in-Read : goal.returns-in_ok-size-in-Read
+returns-in_ok-size-in-Read g c =
+    rw (c.in-Read.is) (range-told c.args.self.now.desk c.in-Read.name c.in-Read.address c.in-Read.size _ c.in_ok-size-in-Read.ensures.size)
 
 pub returns-in_ok-blocks-in-Blocks : goal.returns-in_ok-blocks-in-Blocks
 returns-in_ok-blocks-in-Blocks g c = rw (c.in-Blocks.is) (blocks-told c.args.self.now.desk c.in-Blocks.name _ c.in_ok-blocks-in-Blocks.ensures)

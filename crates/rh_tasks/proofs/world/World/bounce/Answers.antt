@@ -1,6 +1,6 @@
 use Rattle.rh_tasks.proofs.Common.{sym, refl, reordered-refl}
 use Rattle.rh_tasks.proofs.SeatRecords.{sits-in, can-take-if}
-use Rattle.rh_tasks.proofs.Tables.{sender-back, ack-back, load-ack-back, fetch-back}
+use Rattle.rh_tasks.proofs.Tables.{sender-back, ack-back, load-ack-back, fetch-back, other-back}
 use Rattle.rh_tasks.proofs.world.World.bounce.Goals as goal
 
 pub returns-in-DataSave : goal.returns-in-DataSave
@@ -22,3 +22,6 @@ returns-in-RamFetch g c = λ t m for.
     let own = rw (← c.self.view_is) at for in
     let h = rw (← c.self.view_is) at c.perform_take.ensures in
     rw (← c.self.view_is) (fetch-back c.self.invariant (sym c.index-seat.ensures) own c.in-RamFetch.is c.on_bounce-action.ensures.action (h t own.at))
+
+pub returns-in-Other : goal.returns-in-Other
+returns-in-Other g c = λ t m for. other-back for c.in-Other.is (refl, reordered-refl _)

@@ -1,14 +1,10 @@
-use Rattle.rh_tasks.proofs.Common.{refl, ap, sym, err_from_is_err_and, kept_of, shown_of, FoundSeat, ends, done-refused, nobody}
+use Rattle.rh_tasks.proofs.Common.{refl, sym, ◌∙◌, err_from_is_err_and, ends, nobody, task_of}
 use Rattle.rh_defs.specs.Commands.{cancel_in}
-use Rattle.rh_tasks.proofs.Chains.{done}
-use Rattle.rh_tasks.proofs.Cancels.{taking-stay, taking-world, cancel_in-done, cancel_in-refused}
+use Rattle.rh_tasks.proofs.Cancels.{cancel_in-done, cancel_in-refused, cancel_in-released, there-then}
+use Rattle.rh_tasks.proofs.Finding.{found-in}
+use Rattle.rh_tasks.proofs.Polls.{place-in, task-there}
+use Rattle.rh_tasks.proofs.ScrapTransfers.{at-inside}
 use Rattle.rh_tasks.proofs.world.World.cancel_in.Goals as goal
-use Rattle.rh_tasks.proofs.world.World.cancel_in.Goals.{After-index_mut-seat}
-use Rattle.rh_tasks.proofs.world.World.cancel_in.Given as given
-
--- the seat that is found
-found : (g : given.Over) (c : After-index_mut-seat g) → FoundSeat c.args.name.now c.self.inside.seats.items c.in_ok-i.i c.index_mut-seat.result.now
-found g c = record { at = c.in_ok-i.ensures.ok; is = sym c.index_mut-seat.ensures.value }
 
 pub returns-in_err-i : goal.returns-in_err-i
 unfolding cancel_in
@@ -16,25 +12,44 @@ returns-in_err-i g c =
     let p = err_from_is_err_and c.from_residual.result c.from_residual.ensures.1 in
     rw (p.1, p.2, c.in_err-i.ensures.err.0, ← c.self.view_is) (ends _ (nobody _ _ _ _ _ _ c.in_err-i.ensures.err.1), refl)
 
-pub invariant_of-self : goal.invariant_of-self
-invariant_of-self g c = taking-world c.self.invariant (found g (goal.at.invariant_of-self g c).After-index_mut-seat) _
+pub released_in-released-requires : goal.released_in-released-requires
+released_in-released-requires g c =
+    let f = found-in c.in_ok-i.ensures.ok in
+    rw (← c.self.view_is) (place-in c.self.invariant f.1)
 
-pub returns-in_err-cancel : goal.returns-in_err-cancel
-returns-in_err-cancel g c =
-    let f = found g (goal.at.returns-in_err-cancel g c).After-index_mut-seat in
-    let p = err_from_is_err_and c.from_residual-in_err-cancel.result c.from_residual-in_err-cancel.ensures.1 in
-    let refused = done-refused _ c.in_err-cancel.ensures.answer in
-    rw (p.1, p.2, ← c.self.view_is) (
-      cancel_in-refused c.self.invariant f c.args.id refused,
-      ap (λ seats. shown_of (g.S.Words.memory c.self.inside.store) seats c.self.inside.made.items (g.F.NamedFiles.contents c.self.inside.files)
-          (kept_of c.self.inside.next c.self.inside.queue c.self.inside.scrap))
-          (taking-stay c.self.invariant f c.args.id refused c.in_err-cancel.ensures.records),
-    )
+pub give_up-requires : goal.give_up-requires
+give_up-requires g c =
+    let f = found-in c.in_ok-i.ensures.ok in
+    rw (← c.self.view_is) (place-in c.self.invariant f.1)
 
-pub invariant_of-self-2 : goal.invariant_of-self-2
-invariant_of-self-2 g c = taking-world c.self.invariant (found g (goal.at.invariant_of-self-2 g c).After-index_mut-seat) _
+pub returns-in_err-give_up : goal.returns-in_err-give_up
+unfolding task_of
+returns-in_err-give_up g c =
+    let f = found-in c.in_ok-i.ensures.ok in
+    let p = err_from_is_err_and c.from_residual-in_err-give_up.result c.from_residual-in_err-give_up.ensures.1 in
+    let e = (rw (← c.self.view_is) at c.in_err-give_up.ensures) _ (task-there c.self.invariant f.1) in
+    rw (p.1, p.2, ← c.self.view_is) (cancel_in-refused c.self.invariant f.1 c.args.id e.0, e.1)
+
+pub returns-in_default : goal.returns-in_default
+unfolding task_of
+returns-in_default g c =
+    let f = found-in c.in_ok-i.ensures.ok in
+    let b = (rw (← c.self.view_is) at c.released_in-released.ensures) _ (task-there c.self.invariant f.1) in
+    let e = (rw (← c.self.view_is) at c.in_ok-give_up.ensures) _ (task-there c.self.invariant f.1) in
+    rw (← c.self.view_is) (cancel_in-done c.self.invariant f.1 c.args.id e.1.0 (sym b ∙ c.in_default.is) e.1.1)
+
+pub drop_buffer-requires : goal.drop_buffer-requires
+unfolding task_of
+drop_buffer-requires g c =
+    let f = found-in c.in_ok-i.ensures.ok in
+    let e = (rw (← c.self.view_is) at c.in_ok-give_up.ensures) _ (task-there c.self.invariant f.1) in
+    at-inside c.give_up.new.self.desk c.in_ok-i.i _ (there-then c.self.invariant f.1 e.0 e.1.1)
 
 pub returns : goal.returns
+unfolding task_of
 returns g c =
-    let f = found g (goal.at.returns g c).After-index_mut-seat in
-    rw (← c.self.view_is) (cancel_in-done c.self.invariant f c.args.id (done _ _ c.in_ok-cancel.ensures.answer c.in_ok-cancel.ensures.records))
+    let f = found-in c.in_ok-i.ensures.ok in
+    let b = (rw (← c.self.view_is) at c.released_in-released.ensures) _ (task-there c.self.invariant f.1) in
+    let e = (rw (← c.self.view_is) at c.in_ok-give_up.ensures) _ (task-there c.self.invariant f.1) in
+    let dropped = c.drop_buffer.ensures _ (there-then c.self.invariant f.1 e.0 e.1.1) in
+    rw (← c.self.view_is) (cancel_in-released c.self.invariant f.1 c.args.id e.1.0 c.in-Some.buffer (sym b ∙ c.in-Some.is) e.1.1 dropped)

@@ -38,5 +38,11 @@ returns-in-Save g c = rw (c.in-Save.is) (stepped-alike (command.Save c.in-Save.n
 pub returns-in-Poll : goal.returns-in-Poll
 returns-in-Poll g c = rw (c.in-Poll.is) (stepped-alike (command.Poll c.in-Poll.name) _ _ _ _ _ refl refl c.poll.ensures c.answer-in-Poll.ensures)
 
+pub raw_command-requires : goal.raw_command-requires
+raw_command-requires g c = rw c.in-Raw.is at c.requires.ranged
+
+pub returns-in-Raw : goal.returns-in-Raw
+returns-in-Raw g c = rw (c.in-Raw.is) (stepped-alike (command.Raw c.in-Raw.command) _ _ _ _ _ refl refl c.raw_command.ensures c.answer-in-Raw.ensures)
+
 pub returns-in_default : goal.returns-in_default
 returns-in_default g c = stepped c.args.command.now _ _ _ _ _ refl (no-question _ c.in_default.not-Ask) c.memory_command.ensures c.answer-in_default.ensures

@@ -1,19 +1,21 @@
 use Rattle.rh_tasks.proofs.Common.{sym, refl, reordered-refl}
 use Rattle.rh_tasks.proofs.SeatRecords.{sits-in, can-send-if, can-take-if}
-use Rattle.rh_tasks.proofs.Tables.{save-as, ack-as, load-as, load_ack-as, fetch-ignored, fetch-as, bytes-as}
+use Rattle.rh_tasks.proofs.Tables.{flagged-due, other-came, save-as, ack-as, load-as, load_ack-as, fetch-ignored, fetch-as, bytes-as}
 use Rattle.rh_tasks.proofs.world.World.deliver.Goals as goal
 
 pub perform_take-requires-clause-due : goal.perform_take-requires-clause-due
 perform_take-requires-clause-due g c =
     let at = sits-in c.self.invariant (rw (← c.self.view_is) at c.requires) (sym c.index-seat.ensures) in
-    rw (← c.self.view_is) (can-take-if c.self.invariant at c.on_save-action.result c.on_save-action.ensures.due)
+    rw (← c.self.view_is) (can-take-if c.self.invariant at c.flagged-action.result
+    (rw c.flagged-action.ensures (flagged-due c.is_raw_at.result c.on_save-offer.result _ c.on_save-offer.ensures.due)))
 
 pub returns-in-DataSave : goal.returns-in-DataSave
 returns-in-DataSave g c = λ t m for.
     let own = rw (← c.self.view_is) at for in
     let h = rw (← c.self.view_is) at c.perform_take.ensures in
-    rw (← c.self.view_is) (save-as c.self.invariant (sym c.index-seat.ensures) own c.in-DataSave.is c.is_deaf.ensures c.on_save-action.ensures.action
-    (h t own.at))
+    let raw = rw (← c.self.view_is) at c.is_raw_at.ensures in
+    rw (← c.self.view_is) (save-as c.self.invariant (sym c.index-seat.ensures) own c.in-DataSave.is c.is_deaf.ensures c.on_save-offer.ensures.action raw
+    c.flagged-action.ensures (h t own.at))
 
 pub perform_send-requires-clause-due : goal.perform_send-requires-clause-due
 perform_send-requires-clause-due g c =
@@ -76,3 +78,6 @@ returns-then-answers_none g c = λ t m for.
     let own = rw (← c.self.view_is) at for in
     rw (← c.self.view_is) (fetch-ignored c.self.invariant (sym c.index-seat.ensures) own c.in-RamFetch.is (sym c.if-answers_none.ensures)
     (refl, reordered-refl _))
+
+pub returns-in-Other : goal.returns-in-Other
+returns-in-Other g c = λ t m for. other-came for c.in-Other.is (refl, reordered-refl _)

@@ -18,9 +18,9 @@ returns-in_default g c =
     let at = task-there c.self.invariant f.1 in
     rw (← c.self.view_is) (poll-none c.self.invariant f.1 (none-taken _ (e.event _ at)) _ (e.desk _ at))
 
-pub handle-outcome-requires : goal.handle-outcome-requires
+pub receive-outcome-requires : goal.receive-outcome-requires
 unfolding task_of
-handle-outcome-requires g c =
+receive-outcome-requires g c =
     let f = found-in c.in_ok-i.ensures.ok in
     let e = rw (← c.self.view_is) at c.take_event.ensures in
     place-then c.self.invariant f.1 _ (e.desk _ (task-there c.self.invariant f.1))
@@ -31,4 +31,6 @@ returns g c =
     let f = found-in c.in_ok-i.ensures.ok in
     let e = rw (← c.self.view_is) at c.in-Some.ensures in
     let at = task-there c.self.invariant f.1 in
-    rw (← c.self.view_is, c.action.ensures) (poll-some c.self.invariant f.1 (some-taken _ _ (e.event _ at)) _ _ _ (e.desk _ at) c.handle-outcome.ensures)
+    let done = rw c.as_read-message.ensures at c.receive-outcome.ensures in
+    rw (← c.self.view_is, c.action.ensures, c.as_read-message.ensures)
+    (poll-some c.self.invariant f.1 (some-taken _ _ (e.event _ at)) _ _ _ (e.desk _ at) done)

@@ -1,6 +1,7 @@
 use Rattle.rh_tasks.proofs.Common.{refl, ap, sym, ◌∙◌, err_from_is_err_and, set, FoundSeat, ends, sits, nobody}
 use Rattle.rh_defs.specs.Commands.{repeat}
-use Rattle.rh_tasks.proofs.Repeats.{same-shown, seat-kept, from-live, again-own, repeat-nothing, repeat-refused, repeat-world, repeat-done}
+use Rattle.rh_tasks.proofs.Repeats.{same-shown, seat-kept, from-live, again-own, repeat-nothing, repeat-refused, repeat-world, repeat-done, repeat-answered}
+use Rattle.rh_tasks.proofs.Repeats.{answered-spells, answered-world}
 use Rattle.rh_tasks.proofs.world.World.repeat.Goals as goal
 
 pub returns-in_err-i : goal.returns-in_err-i
@@ -38,17 +39,42 @@ returns-in_err-my_ref g c =
           (ap (set c.self.inside.seats.items c.in_ok-i.i) e.err.1.1 ∙ seat-kept c.self.invariant f) e.err.1.0,
     )
 
+pub invariant_of-self-then-not-is_raw : goal.invariant_of-self-then-not-is_raw
+invariant_of-self-then-not-is_raw g c =
+    let s = c.index_mut-seat.result.now in
+    let f : FoundSeat c.args.name.now c.self.inside.seats.items c.in_ok-i.i s = record { at = c.in_ok-i.ensures.ok; is = sym c.index_mut-seat.ensures.value } in
+    let e = c.in_ok-my_ref.ensures in
+    let played = sym c.is_raw-is_raw.ensures ∙ c.if-not-is_raw.true in
+    rw (e.ok)
+    (repeat-world c.self.invariant f c.in_ok-letter.letter (sym c.in_ok-letter.ensures) c.in_ok-my_ref.my_ref e.answer e.leaves c.requires played)
+
+pub returns-then-not-is_raw : goal.returns-then-not-is_raw
+returns-then-not-is_raw g c =
+    let s = c.index_mut-seat.result.now in
+    let f : FoundSeat c.args.name.now c.self.inside.seats.items c.in_ok-i.i s = record { at = c.in_ok-i.ensures.ok; is = sym c.index_mut-seat.ensures.value } in
+    let e = c.in_ok-my_ref.ensures in
+    let played = sym c.is_raw-is_raw.ensures ∙ c.if-not-is_raw.true in
+    rw (← c.self.view_is, e.ok)
+    (repeat-done c.self.invariant f c.in_ok-letter.letter (sym c.in_ok-letter.ensures) c.in_ok-my_ref.my_ref e.answer e.leaves c.requires played)
+
 pub invariant_of-self-2 : goal.invariant_of-self-2
 invariant_of-self-2 g c =
     let s = c.index_mut-seat.result.now in
     let f : FoundSeat c.args.name.now c.self.inside.seats.items c.in_ok-i.i s = record { at = c.in_ok-i.ensures.ok; is = sym c.index_mut-seat.ensures.value } in
     let e = c.in_ok-my_ref.ensures in
-    rw (e.ok) (repeat-world c.self.invariant f c.in_ok-letter.letter (sym c.in_ok-letter.ensures) c.in_ok-my_ref.my_ref e.answer e.leaves c.requires)
+    let letter = c.in_ok-letter.letter in
+    let own = again-own c.self.invariant f letter (sym c.in_ok-letter.ensures) in
+    let scrap = c.kept_scrap-self-inside.ensures _ (answered-spells c.self.invariant (sits f) letter own c.in_ok-my_ref.my_ref e.answer e.leaves) in
+    rw (scrap, e.ok) (answered-world c.self.invariant (sits f) letter own c.in_ok-my_ref.my_ref e.answer e.leaves)
 
 pub returns : goal.returns
 returns g c =
     let s = c.index_mut-seat.result.now in
     let f : FoundSeat c.args.name.now c.self.inside.seats.items c.in_ok-i.i s = record { at = c.in_ok-i.ensures.ok; is = sym c.index_mut-seat.ensures.value } in
     let e = c.in_ok-my_ref.ensures in
-    rw (← c.self.view_is, e.ok) (repeat-done c.self.invariant f c.in_ok-letter.letter (sym c.in_ok-letter.ensures) c.in_ok-my_ref.my_ref e.answer e.leaves
-    c.requires)
+    let letter = c.in_ok-letter.letter in
+    let own = again-own c.self.invariant f letter (sym c.in_ok-letter.ensures) in
+    let scrap = c.kept_scrap-self-inside.ensures _ (answered-spells c.self.invariant (sits f) letter own c.in_ok-my_ref.my_ref e.answer e.leaves) in
+    rw (← c.self.view_is, scrap, e.ok)
+    (repeat-answered c.self.invariant f letter (sym c.in_ok-letter.ensures) c.in_ok-my_ref.my_ref e.answer e.leaves c.requires
+    (sym c.is_raw-is_raw.ensures ∙ c.if-not-is_raw.false))

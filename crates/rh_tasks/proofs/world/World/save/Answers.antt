@@ -1,7 +1,7 @@
 use Rattle.rh_tasks.proofs.Common.{refl, ap, sym, ◌∙◌, set, err_from_is_err_and, FoundSeat, source_block}
 use Rattle.rh_tasks.proofs.Ranges.{save-anchor, save-leaf}
 use Rattle.rh_tasks.proofs.Repeats.{same-shown, seat-kept}
-use Rattle.rh_tasks.proofs.Saves.{again-found, again-given, save-stopped, save-nobody, may-open, save-refused, save-world, save-done, save-live}
+use Rattle.rh_tasks.proofs.Saves.{again-found, again-given, save-stopped, save-nobody, may-open, save-refused, save-wrong, save-world, save-done, save-live}
 use Rattle.rh_tasks.proofs.world.World.save.Goals as goal
 
 pub idle_source-requires-clause-anchor : goal.idle_source-requires-clause-anchor
@@ -24,6 +24,21 @@ returns-in_err-recipient g c =
 
 pub pathname-requires : goal.pathname-requires
 pathname-requires g c = save-leaf c.args.name.now c.args.anchor c.args.to.now c.args.leaf.now c.requires
+
+pub returns-then-is_raw : goal.returns-then-is_raw
+returns-then-is_raw g c =
+    let e = c.in_ok-source.ensures.ok in
+    let s = c.index_mut-seat.result.now in
+    let f : FoundSeat c.args.name.now c.self.inside.seats.items c.in_ok-source.source.place s = again-found e.found (sym c.index_mut-seat.ensures.value) in
+    let given = again-given (source_block c.args.anchor) (g.S.Words.memory c.self.inside.store) e.found f e.given in
+    let r = c.in_ok-recipient.ensures.ok in
+    let x = rw (c.save_letter-letter.ensures, c.pathname.ensures) at c.refused_after.ensures in
+    rw (← c.self.view_is) (
+      save-wrong c.self.invariant c.args.anchor c.args.to.now c.args.leaf.now f c.in_ok-source.source.size given r.found r.is
+          (sym c.is_raw.ensures ∙ c.if-is_raw.true) x,
+      same-shown c.self.inside.made.items (g.F.NamedFiles.contents c.self.inside.files) c.self.inside.next c.self.inside.scrap refl
+          (seat-kept c.self.invariant f) refl,
+    )
 
 pub send-requires-clause-from : goal.send-requires-clause-from
 send-requires-clause-from g c =
@@ -68,7 +83,7 @@ invariant_of-self-2 g c =
     let r = c.in_ok-recipient.ensures.ok in
     let x = rw (c.save_letter-letter.ensures, c.pathname.ensures) at c.in_ok-my_ref.ensures in
     rw (c.offered.ensures, x.ok) (save-world c.self.invariant c.args.anchor c.args.to.now c.args.leaf.now f c.in_ok-source.source.size given r.found r.is
-    c.in_ok-my_ref.my_ref x.answer x.leaves c.requires)
+    (sym c.is_raw.ensures ∙ c.if-is_raw.false) c.in_ok-my_ref.my_ref x.answer x.leaves c.requires)
 
 pub returns : goal.returns
 returns g c =
@@ -79,4 +94,4 @@ returns g c =
     let r = c.in_ok-recipient.ensures.ok in
     let x = rw (c.save_letter-letter.ensures, c.pathname.ensures) at c.in_ok-my_ref.ensures in
     rw (← c.self.view_is, c.offered.ensures, x.ok) (save-done c.self.invariant c.args.anchor c.args.to.now c.args.leaf.now f c.in_ok-source.source.size given
-    r.found r.is c.in_ok-my_ref.my_ref x.answer x.leaves c.requires)
+    r.found r.is (sym c.is_raw.ensures ∙ c.if-is_raw.false) c.in_ok-my_ref.my_ref x.answer x.leaves c.requires)
