@@ -17,10 +17,13 @@ use Rattle.rh_safety.specs.Held.{held, held_of, document_of, in_anchor, is_edite
 use Rattle.rh_safety.specs.Offered.{bytes_of_block, offered}
 use Rattle.rh_safety.specs.Safe.{IsSafe}
 use Rattle.rh_safety.proofs.Basics.{is_equal, same_value, first_is, contains_of}
+use Rattle.rh_safety.specs.RawIds.{is_raw_id}
+use Rattle.rh_safety.proofs.Blanks.{always_offers_safe}
+use Rattle.rh_safety.proofs.Played.{all_safe}
 use Rattle.rh_safety.proofs.SeenLaws.{always_safe}
 use Rattle.rh_safety.proofs.HeldCounts.{always_counts_held}
 use Rattle.rh_tasks.specs.Shown.{Shown, IsSpelled}
-use Rattle.rh_received.specs.Received.{HasReceived, HoldsReceived}
+use Rattle.rh_received.specs.Received.{HasReceived, HasRun, HoldsAllReceived, HoldsOffered, HoldsReceived}
 use Rattle.rh_received.proofs.Places.{anchored, slot-of}
 
 -- the record of a transfer of which something is held, and its document
@@ -60,13 +63,12 @@ module _ (pool handle ref : ℕ) (files : FileList) (cs : List Command) (from : 
   tasks-same : s.desk.tasks ≡ (after d cs).tasks
   tasks-same = ap (λ (x : Desk). x.tasks) desk.rest
 
-  in-store : (id h : ℕ) (got : List ℕ) (t : Task) → task_at h (after d cs) ≡ Some t → held d cs id h ≡ Some got →
+  in-store : (id h : ℕ) (got : List ℕ) (t : Task) → IsSafe d cs id h → task_at h (after d cs) ≡ Some t → held d cs id h ≡ Some got →
       HasReceived d cs s id h got
-  in-store id h got t at q =
+  in-store id h got t safe at q =
       let w = holds t id (is_edited d cs h id) got (ap (λ (v : Option Task). held_of v id (is_edited d cs h id)) (sym at) ∙ q) in
       let live : task_at h s.desk ≡ Some t = ap (find (λ (x : Task). x.handle == h)) tasks-same ∙ at in
       let place = slot-of h s.desk.tasks s.slots t spelled.slots live in
-      let safe : IsSafe d cs id h = always_safe pool handle ref files cs from ranged id h in
       let offer = safe.prefix got q in
       record {
         task = t;
@@ -83,17 +85,35 @@ module _ (pool handle ref : ℕ) (files : FileList) (cs : List Command) (from : 
         whole = λ done. same_value (offered d cs id) (safe.whole got _ _ t q at (done-is t id w.taking w.recorded done)) offer.1;
       }
 
-  from-start : (id h : ℕ) (got : List ℕ) → held d cs id h ≡ Some got → HasReceived d cs s id h got
-  from-start id h got q = go (task_at h (after d cs)) refl
+  from-start : (id h : ℕ) (got : List ℕ) → IsSafe d cs id h → held d cs id h ≡ Some got → HasReceived d cs s id h got
+  from-start id h got safe q = go (task_at h (after d cs)) refl
     where
       go : (o : Option Task) → task_at h (after d cs) ≡ o → HasReceived d cs s id h got
       go None e = absurd (let z : None ≡ Some got = ap (λ (v : Option Task). held_of v id (is_edited d cs h id)) (sym e) ∙ q in cc)
-      go (Some t) e = in-store id h got t e q
+      go (Some t) e = in-store id h got t safe e q
 
-pub holds-received : (s : Shown) → IsSpelled s → HoldsReceived s
-holds-received s spelled d cs id h got run q =
-    let d0 = start_with run.pool run.files run.handle run.ref in
+-- what is held of a transfer that is safe from the first desk on
+received-safely : (s : Shown) → IsSpelled s → (d : Desk) (cs : List Command) (id h : ℕ) (got : List ℕ) → (run : HasRun d cs s)
+    → IsSafe (start_with run.pool run.files run.handle run.ref) cs id h → held d cs id h ≡ Some got → HasReceived d cs s id h got
+received-safely s spelled d cs id h got run safe q =
     subst (λ (x : Desk). HasReceived x cs s id h got) (sym run.first)
     (from-start run.pool run.handle run.ref run.files cs run.begins run.ranged s spelled
-    (subst (λ (x : Desk). IsReordered (after x cs) s.desk) run.first run.desk) id h got
+    (subst (λ (x : Desk). IsReordered (after x cs) s.desk) run.first run.desk) id h got safe
     (subst (λ (x : Desk). held x cs id h ≡ Some got) run.first q))
+
+pub holds-received : (s : Shown) → IsSpelled s → HoldsReceived s
+holds-received s spelled d cs id h got run played q =
+    received-safely s spelled d cs id h got run
+    (always_safe run.pool run.handle run.ref run.files cs run.begins run.ranged id h
+    (subst (λ (x : Desk). is_raw_id x cs id ≡ false) run.first played)) q
+
+pub holds-offered : (s : Shown) → IsSpelled s → HoldsOffered s
+holds-offered s spelled d cs id h got file run is q =
+    received-safely s spelled d cs id h got run
+    (always_offers_safe run.pool run.handle run.ref run.files cs run.begins run.ranged id h file
+    (subst (λ (x : Desk). offered x cs id ≡ Some file) run.first is)) q
+
+pub holds-all-received : (s : Shown) → IsSpelled s → HoldsAllReceived s
+holds-all-received s spelled d cs id h got run played q =
+    received-safely s spelled d cs id h got run
+    (all_safe run.pool run.handle run.ref run.files cs run.begins run.ranged played id h) q

@@ -1,5 +1,5 @@
 -- What a task received of a file, as it stands in the bytes of the store.
-use Rattle.std.specs.Prelude.{◌≡◌, ℕ, ◌+◌, ◌*◌, ◌<◌, ◌≤◌, ◌==◌, true, if◌then◌else◌, List, [], ◌∷◌, ◌++◌, length, find, Option, Some, None}
+use Rattle.std.specs.Prelude.{◌≡◌, ℕ, ◌+◌, ◌*◌, ◌<◌, ◌≤◌, ◌==◌, true, false, if◌then◌else◌, List, [], ◌∷◌, ◌++◌, length, find, Option, Some, None}
 use Rattle.std.specs.Io.{StartsWith}
 use Rattle.rh_defs.specs.Bytes.{word, part}
 use Rattle.rh_defs.specs.Desk.{Desk, Task, task_at}
@@ -15,6 +15,7 @@ use Rattle.rh_defs.specs.declared.transfer.Incoming.{Incoming}
 use Rattle.rh_safety.specs.Counts.{counted_in, is_done}
 use Rattle.rh_safety.specs.Held.{held, in_anchor}
 use Rattle.rh_safety.specs.Offered.{offered}
+use Rattle.rh_safety.specs.RawIds.{has_raw, is_raw_id}
 use Rattle.rh_tasks.specs.Answer.{RunsOn}
 use Rattle.rh_tasks.specs.Shown.{Shown}
 
@@ -67,11 +68,23 @@ pub record HasReceived (d : Desk) (commands : List Command) (s : Shown) (id h : 
   pub front : StartsWith file got
   pub whole : is_done taking ≡ true → got ≡ file
 
--- so it is, after whatever run, of all that a task holds of a transfer
+-- so it is, after whatever run, of all that a task holds of a transfer, unless a task with code of its own began that
 abbrev pub HoldsReceived : Shown → Type 0
 HoldsReceived s =
     (d : Desk) (commands : List Command) (id h : ℕ) (got : List ℕ) → HasRun d commands s →
-    held d commands id h ≡ Some got → HasReceived d commands s id h got
+    is_raw_id d commands id ≡ false → held d commands id h ≡ Some got → HasReceived d commands s id h got
+
+-- so it is of each transfer that was offered, whatever such tasks do
+abbrev pub HoldsOffered : Shown → Type 0
+HoldsOffered s =
+    (d : Desk) (commands : List Command) (id h : ℕ) (got file : List ℕ) → HasRun d commands s →
+    offered d commands id ≡ Some file → held d commands id h ≡ Some got → HasReceived d commands s id h got
+
+-- so it is of every transfer, where no command starts such a task
+abbrev pub HoldsAllReceived : Shown → Type 0
+HoldsAllReceived s =
+    (d : Desk) (commands : List Command) (id h : ℕ) (got : List ℕ) → HasRun d commands s →
+    has_raw commands ≡ false → held d commands id h ≡ Some got → HasReceived d commands s id h got
 
 -- a run begins at a first desk
 abbrev pub RunsBegin : Type 0

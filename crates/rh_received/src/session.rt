@@ -5,7 +5,7 @@ ghost use Rattle.rh_defs.specs.Memory.{Memory, fresh};
 ghost use Rattle.rh_defs.specs.Range.{all_in_range};
 ghost use Rattle.rh_defs.specs.Runs.{start};
 ghost use Rattle.rh_defs.specs.declared.sizes.TheConstants.{MAX_PAGES, MIN_PAGES};
-ghost use Rattle.rh_received.specs.Received.{HasRun, HoldsReceived};
+ghost use Rattle.rh_received.specs.Received.{HasRun, HoldsAllReceived, HoldsOffered, HoldsReceived};
 
 use crate::laws::{received_law, run_law};
 use rh_defs::Command;
@@ -24,6 +24,8 @@ pub fn run_commands<S: Store, F: NamedFiles>(
     requires ranged { all_in_range commands.now ≡ true }
     ensures run { HasRun (start (S.memory store).pages (F.contents files)) commands.now result }
     ensures received { HoldsReceived result }
+    ensures offered { HoldsOffered result }
+    ensures all { HoldsAllReceived result }
 {
     run_law();
     let mut world = World::new(store, files);
