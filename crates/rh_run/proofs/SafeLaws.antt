@@ -8,7 +8,7 @@ use Rattle.rh_defs.specs.Script.{ended_text, script_text}
 use Rattle.rh_lines.specs.Flow.{Input, Output}
 use Rattle.rh_session.specs.declared.status.Status.{Status}
 use Rattle.rh_session.specs.Outcome.{Answered, Finished}
-use Rattle.rh_safety.proofs.SeenLaws.{scripts_are_safe}
+use Rattle.rh_safety.proofs.Played.{scripts_are_safe}
 use Rattle.rh_run.specs.Safely.{RanSafely}
 
 module _ (pages : ℕ) (files : FileList) (least : MIN_PAGES ≤ pages) (most : pages ≤ most_pages) {before after : Input} {old new : Output} where

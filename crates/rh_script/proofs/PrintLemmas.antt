@@ -1,12 +1,13 @@
 -- Bytes as digits part by part, records, and replies.
 use Rattle.rh_script.proofs.Common.{◌≡◌, ◌≢◌, ℕ, true, false, ◌+◌, List, [], ◌∷◌, ◌++◌, length, take, drop, Ok, Err, refl, sym, ◌∙◌, ap, map}
-use Rattle.rh_script.proofs.Common.{append_assoc, append-nil, flat_map, if◌then◌else◌, record_line}
+use Rattle.rh_script.proofs.Common.{append_assoc, append-nil, decimal, flat_map, if◌then◌else◌, ok, record_line}
 use Rattle.rh_defs.specs.declared.question.RecordItem.{RecordItem}
 use Rattle.rh_defs.specs.declared.refusal.Refusal.{Refusal}
 use Rattle.rh_defs.specs.declared.reply.Reply.TheVariants as reply
 use Rattle.rh_defs.specs.Chain.{Granted, ◌>>=◌}
 use Rattle.rh_defs.specs.Desk.{Desk, Task}
-use Rattle.rh_defs.specs.Questions.{Nothing}
+use Rattle.rh_defs.specs.Questions.{Bytes, Nothing}
+use Rattle.rh_defs.specs.declared.question.Numbers.TheVariants as numbers
 use Rattle.rh_defs.specs.Questions.{Told, asked, begins}
 use Rattle.rh_defs.specs.declared.command.Command.{Command}
 use Rattle.rh_defs.specs.declared.command.Command.TheVariants as command
@@ -15,7 +16,7 @@ use Rattle.rh_defs.specs.declared.reply.Reply.{Reply}
 use Rattle.rh_defs.specs.Range.{can_be_asked, in_range}
 use Rattle.std.proofs.Math.Seq.{take-add}
 use Rattle.hex.specs.Hex.{encode_with, encode_lower, lower_digits}
-use Rattle.rh_defs.specs.Text.{answer_text, reply_text, first_line, hex_words, rest_of_line, record_lines}
+use Rattle.rh_defs.specs.Text.{answer_text, reply_text, first_line, later_lines, hex_words, record_lines}
 
 -- ---- bytes as digits, part by part
 
@@ -40,19 +41,12 @@ digits_more bytes i n o p q so_far more =
     more ∙ (ap (λ z. z ++ encode_lower (take n (drop i bytes))) so_far
     ∙ (append_assoc o (encode_lower (take i bytes)) (encode_lower (take n (drop i bytes))) ∙ ap (λ z. o ++ z) (sym (part_more bytes i n))))
 
--- ---- a block's bytes, behind a space
+-- ---- bytes behind their size
 
--- the space, the digits and the line feed
-spaced : (bytes : List ℕ) → length bytes ≢ 0 → rest_of_line (hex_words bytes) ≡ 32 ∷ (encode_lower bytes ++ 10 ∷ [])
-spaced [] some = absurd (some refl)
-spaced (b ∷ bytes) some = refl
-
--- the same, one after the other
-pub spaced_put : (bytes o p q r : List ℕ) → length bytes ≢ 0 → p ≡ o ++ 32 ∷ [] → q ≡ p ++ encode_lower bytes → r ≡ q ++ 10 ∷ []
-    → r ≡ o ++ rest_of_line (hex_words bytes)
-spaced_put bytes o p q r some space digits end =
-    end ∙ (ap (λ z. z ++ 10 ∷ []) (digits ∙ ap (λ z. z ++ encode_lower bytes) space) ∙ (append_assoc (o ++ 32 ∷ []) (encode_lower bytes) (10 ∷ [])
-    ∙ (append_assoc o (32 ∷ []) (encode_lower bytes ++ 10 ∷ []) ∙ ap (λ z. o ++ z) (sym (spaced bytes some)))))
+pub show_text : (answer : Granted Told) (size : ℕ) (bytes : List ℕ) → answer ≡ Ok (numbers.Shown size, Bytes bytes)
+    → ok (decimal size ∷ hex_words bytes) ≡ answer_text answer
+unfolding answer_text first_line later_lines
+show_text answer size bytes e = rw e (sym (append-nil (ok (decimal size ∷ hex_words bytes))))
 
 -- ---- the records of transfers
 

@@ -1,7 +1,8 @@
 -- What a desk's readers give, in terms of what is printed of a named task's slot.
 use Rattle.rh_script.proofs.Common.{◌≡◌, ℕ, ◌+◌, ◌≤◌, ◌<◌, ◌^◌, Bool, true, false, cond, List, [], ◌∷◌, length, take, drop, Option, Some, None, Result, Ok}
-use Rattle.rh_script.proofs.Common.{Err, refl, ap, ◌∙◌, arith, MatchResult, IfOk, IfErr, nat_lt, ◌==◌, find, option_map, tests, SegmentItem}
+use Rattle.rh_script.proofs.Common.{Err, refl, sym, ap, ◌∙◌, arith, MatchResult, IfOk, IfErr, nat_lt, ◌==◌, find, option_map, tests, SegmentItem}
 use Rattle.rh_script.proofs.Common.{segment_items_at, heap_of_named, bytes_of_named}
+use Rattle.std.specs.Prelude.{not}
 use Rattle.std.specs.List.{AllByRecursion}
 use Rattle.rh_defs.specs.declared.refusal.Refusal.{Refusal}
 use Rattle.rh_defs.specs.declared.refusal.Refusal.TheVariants.{NoName, NoBlock, BadRange}
@@ -11,11 +12,13 @@ use Rattle.rh_defs.specs.declared.transfer.Incoming.{Incoming}
 use Rattle.rh_defs.specs.Chain.{Granted, ◌>>=◌, ◌>>◌, refuse_if, found_or}
 use Rattle.rh_defs.specs.Pieces.{Split, behind, first_at, total}
 use Rattle.rh_defs.specs.Laws.{IsDesk}
-use Rattle.rh_defs.specs.Slot.{Slot, Flex, slot_pages, slot_length, IsSlot, HaveAnchors, weight, flex_start, block_of, slot_block, anchor_count}
+use Rattle.rh_defs.specs.Slot.{Slot, Flex, holds, slot_pages, slot_length, IsSlot, HaveAnchors, weight, flex_start, block_of, slot_block, anchor_count}
 use Rattle.rh_defs.specs.Desk.{Desk, Task, task_pages, has_name, named}
-use Rattle.rh_defs.specs.Questions.{Bytes, shown_at, status_at, Told, show}
+use Rattle.rh_defs.specs.Places.{bytes_held}
+use Rattle.rh_defs.specs.Questions.{Bytes, read, shown_at, status_at, Told, show}
+use Rattle.rh_tasks.specs.Sights.{bytes_read, size_read as size_held}
 use Rattle.rh_tasks.specs.WorldLists.{segments_of}
-use Rattle.rh_script.specs.NamedSlots.{slot_or_empty, slot_named, bytes_of_cut}
+use Rattle.rh_script.specs.NamedSlots.{slot_or_empty, slot_named, bytes_of_cut, bytes_named_at}
 
 -- ---- the C heap
 
@@ -192,3 +195,55 @@ pub size_read : (d : Desk) (name : List ℕ) (k : ℕ) (r : Result ℕ Refusal) 
     → IsSize (show d name k) (bytes_of_named name k d) r
 unfolding shown_at show named
 size_read d name k r old new a = size_named (find (has_name name) d.tasks) k r old new a
+
+-- ---- bytes at an address
+
+-- the whole answer, and the bytes
+pub record IsRead (answer : Granted Told) (all : Granted (List ℕ)) (n : ℕ) (bytes : List ℕ) : Type 0 where
+  pub told : answer ≡ Ok (numbers.Shown n, Bytes bytes)
+  pub bytes_are : all ≡ Ok bytes
+
+held_by : (b : Bool) (n k : ℕ) (bytes : List ℕ) → (refuse_if (not b) BadRange >> (let r : Granted ℕ = Ok n in r)) ≡ Ok k
+    → IsRead (refuse_if (not b) BadRange >> Ok (numbers.Shown n, Bytes bytes)) (refuse_if (not b) BadRange >> Ok bytes) n bytes
+unfolding ◌>>=◌ ◌>>◌ refuse_if
+held_by true n k bytes e = record { told = refl; bytes_are = refl }
+held_by false n k bytes e = absurd (cc)
+
+held_in : (o : Option Task) (x n k : ℕ)
+    → (found_or o NoName >>= (λ t. refuse_if (not (holds x n t.slot)) BadRange >> (let r : Granted ℕ = Ok n in r))) ≡ Ok k
+    → IsRead (found_or o NoName >>= (λ t. refuse_if (not (holds x n t.slot)) BadRange >> Ok (numbers.Shown n, Bytes (bytes_held x n t.slot))))
+    (found_or o NoName >>= (λ t. refuse_if (not (holds x n t.slot)) BadRange >> Ok (bytes_held x n t.slot))) n (bytes_held x n (slot_or_empty o))
+unfolding ◌>>=◌ found_or
+held_in None x n k e = absurd (cc)
+held_in (Some t) x n k e = held_by (holds x n t.slot) n k (bytes_held x n t.slot) e
+
+pub held_read : (d : Desk) (name : List ℕ) (x n k : ℕ) → Ok k ≡ size_held d name x n
+    → IsRead (read d name x n) (bytes_read d name x n) n (bytes_named_at name x n d)
+unfolding read bytes_read named
+held_read d name x n k e = held_in (find (has_name name) d.tasks) x n k (sym e)
+
+unheld_by : (b : Bool) (n : ℕ) (bytes : List ℕ) {refusal : Refusal} → (refuse_if (not b) BadRange >> (let r : Granted ℕ = Ok n in r)) ≡ Err refusal
+    → (refuse_if (not b) BadRange >> (let r : Granted Told = Ok (numbers.Shown n, Bytes bytes) in r)) ≡ Err refusal
+unfolding ◌>>=◌ ◌>>◌ refuse_if
+unheld_by true n bytes e = absurd (cc)
+unheld_by false n bytes {refusal} e = let same : BadRange ≡ refusal = cc in ap (λ r. Err r) same
+
+unheld_in : (o : Option Task) (x n : ℕ) {refusal : Refusal}
+    → (found_or o NoName >>= (λ t. refuse_if (not (holds x n t.slot)) BadRange >> (let r : Granted ℕ = Ok n in r))) ≡ Err refusal
+    → (found_or o NoName >>= (λ t. refuse_if (not (holds x n t.slot)) BadRange >>
+    (let r : Granted Told = Ok (numbers.Shown n, Bytes (bytes_held x n t.slot)) in r)))
+    ≡ Err refusal
+unfolding ◌>>=◌ found_or
+unheld_in None x n {refusal} e = let same : NoName ≡ refusal = cc in ap (λ r. Err r) same
+unheld_in (Some t) x n e = unheld_by (holds x n t.slot) n (bytes_held x n t.slot) e
+
+pub unheld_read : (d : Desk) (name : List ℕ) (x n : ℕ) (refusal : Refusal) → Err refusal ≡ size_held d name x n → read d name x n ≡ Err refusal
+unfolding read named
+unheld_read d name x n refusal e = unheld_in (find (has_name name) d.tasks) x n (sym e)
+
+-- a part of the bytes, as it is read
+pub part_held : (all : Granted (List ℕ)) (answer : Result Unit Refusal) (bytes old new : List ℕ) (offset : ℕ) → all ≡ Ok bytes
+    → MatchResult all (λ b. (answer ≡ Ok tt) × (new ≡ take (length old) (drop offset b))) (λ e. (answer ≡ Err e) × (new ≡ old))
+    → new ≡ take (length old) (drop offset bytes)
+part_held (Ok b) answer bytes old new offset e h = let same : b ≡ bytes = cc in h.1 ∙ ap (λ l. take (length old) (drop offset l)) same
+part_held (Err r) answer bytes old new offset e h = absurd (cc)

@@ -3,6 +3,7 @@
 #![tactic(auto)]
 
 mod gathered;
+mod held;
 mod listed;
 mod print;
 mod read;

@@ -6,6 +6,7 @@ ghost use Rattle.rh_defs.specs.Range.{can_be_asked};
 ghost use Rattle.rh_defs.specs.Text.{answer_text, first_line, reply_text};
 ghost use Rattle.rh_lines.specs.Flow.{Puts};
 
+use crate::held::print_read;
 use crate::listed::{print_areas, print_blocks};
 use crate::records::print_status;
 use crate::segments::print_heap;
@@ -113,6 +114,11 @@ pub fn put_answer<S: Store, F: NamedFiles, P: Pen>(
 {
     match question {
         Question::Show { name, anchor } => print_shown(world, name, *anchor, pen),
+        Question::Read {
+            name,
+            address,
+            size,
+        } => print_read(world, name, *address, *size, pen),
         Question::Blocks { name } => print_blocks(world, name, pen),
         Question::Heap { name } => print_heap(world, name, pen),
         Question::Status { name } => print_status(world, name, pen),

@@ -6,7 +6,7 @@ ghost use Rattle.rh_defs.specs.Heap.{IsHeap};
 ghost use Rattle.rh_tasks.specs.WorldLists.{segment_items_at};
 ghost use Rattle.rh_defs.specs.Questions.{Bytes, show};
 ghost use Rattle.rh_defs.specs.declared.question.Numbers.TheVariants as Numbers;
-ghost use Rattle.rh_script.specs.NamedSlots.{bytes_of_named, heap_of_named};
+ghost use Rattle.rh_script.specs.NamedSlots.{AreHeld, bytes_named_at, bytes_of_named, heap_of_named};
 
 use arrayvec::ArrayVec;
 use rh_defs::sizes::SEGMENTS_AT_ONCE;
@@ -83,4 +83,21 @@ pub fn read_whole<S: Store, F: NamedFiles>(
     ensures { to.new ≡ bytes_of_named name.now anchor world.now.desk }
 {
     read_block(world, name, anchor, 0, to);
+}
+
+/// Reads a part of the bytes at an address of the task's slot, from an offset on.
+pub fn read_held<S: Store, F: NamedFiles>(
+    world: &World<S, F>,
+    name: &Name,
+    address: u32,
+    size: u32,
+    offset: u32,
+    to: &mut [u8],
+)
+    requires held { AreHeld name.now address size world.now.desk }
+    requires within { offset + length to.old ≤ size }
+    ensures { to.new ≡ take (length to.old) (drop offset (bytes_named_at name.now address size world.now.desk)) }
+{
+    // Never refused: the bytes are held.
+    let _read = world.read_part(name, address, size, offset, to);
 }

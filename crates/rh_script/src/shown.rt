@@ -20,7 +20,7 @@ use rh_tasks::{NamedFiles, World};
 const SHORT: usize = 64;
 
 /// So many bytes of a longer block are read and written at a time.
-const PIECE: usize = 512;
+pub(crate) const PIECE: usize = 512;
 
 /// Writes the size of the task's block at the anchor, and its bytes, if there are any.
 pub fn print_shown<S: Store, F: NamedFiles, P: Pen>(
@@ -135,7 +135,8 @@ fn print_piece<S: Store, F: NamedFiles, P: Pen>(
     put_digits(part, pen);
 }
 
-fn put_digits<P: Pen>(bytes: &[u8], pen: &mut P)
+/// Writes the hexadecimal digits of some bytes.
+pub(crate) fn put_digits<P: Pen>(bytes: &[u8], pen: &mut P)
     requires { length bytes.now ≤ PIECE }
     ensures { P.offered pen.new ≡ P.offered pen.old ++ encode_lower bytes.now }
 {

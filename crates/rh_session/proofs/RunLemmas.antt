@@ -11,7 +11,16 @@ use Rattle.rh_defs.specs.Line.{Meaning, line_means, longest_line}
 use Rattle.rh_defs.specs.Desk.{Desk}
 use Rattle.rh_defs.specs.Script.{ended, has_bad_line, is_bad, line_desk, lines_desk, lines_text, meaning_desk, meaning_text, rest_text, script_text}
 use Rattle.rh_defs.specs.Script.{unended}
-use Rattle.rh_defs.specs.Text.{fault_text}
+use Rattle.rh_defs.specs.Text.{fault_text, first_line, handed_text, taken_of, with_taken}
+use Rattle.rh_defs.specs.declared.command.Command.TheVariants as command
+use Rattle.rh_defs.specs.declared.question.Question.{Question}
+use Rattle.rh_defs.specs.declared.reply.Reply.{Reply}
+use Rattle.rh_defs.specs.Commands.{step}
+use Rattle.rh_defs.specs.Messages.{Parcel}
+use Rattle.rh_defs.specs.Questions.{Nothing}
+use Rattle.rh_defs.specs.RawTasks.{handed_parts}
+use Rattle.rh_defs.proofs.QuestionLaws.{one-line}
+use Rattle.std.specs.Option.{option_map}
 use Rattle.rh_defs.specs.declared.fault.LineFault.TheVariants.{TooLong}
 use Rattle.rh_lines.specs.Flow.{Input, Output, Breaks, Takes}
 use Rattle.rh_lines.proofs.FlowLemmas.{breaks_before}
@@ -79,6 +88,19 @@ nothing_kept rest = nothing_kept_at rest (split_at (length rest))
 pub rest_none : (rest : List ℕ) → true ≡ (length rest == 0) → rest_text rest ≡ []
 rest_none [] h = refl
 rest_none (x ∷ xs) h = absurd (let no : true ≡ false = h ∙ not_none (length (x ∷ xs)) (omega arith) in cc)
+
+-- ---- the message that is handed out
+
+with_handed : (text : List ℕ) (o : Option Parcel) → text ++ handed_text (option_map handed_parts o) ≡ with_taken text o
+with_handed text None = append-nil text
+with_handed text (Some p) = refl
+
+-- the text of a command that is no question
+pub command_text : (d : Desk) (c : Command) (r : Reply) (handed : Option (ℕ × List ℕ)) → ((q : Question) → c ≡ command.Ask q → ⊥) → r ≡ (step d c).1
+    → handed ≡ option_map handed_parts (taken_of d c) → first_line r Nothing ++ handed_text handed ≡ meaning_text d (Ok (Some c))
+command_text d c r handed other is taken =
+    ap₂ (λ x y. first_line x Nothing ++ handed_text y) is taken ∙ with_handed (first_line (step d c).1 Nothing) (taken_of d c)
+    ∙ ap (λ t. with_taken t (taken_of d c)) (sym (one-line (step d c).0 c (step d c).1 other))
 
 -- ---- one line
 

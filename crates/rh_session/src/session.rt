@@ -1,9 +1,9 @@
 //! A script in the middle of its run.
 
-ghost use Rattle.std.specs.Prelude.{◌≡◌, ◌<◌, Ok, Some, IsTrue, false, length};
+ghost use Rattle.std.specs.Prelude.{◌≡◌, ◌<◌, ◌++◌, Ok, Some, IsTrue, false, length};
 ghost use Rattle.rh_defs.specs.Range.{in_range};
 ghost use Rattle.rh_defs.specs.Script.{rest_text};
-ghost use Rattle.rh_defs.specs.Text.{fault_text};
+ghost use Rattle.rh_defs.specs.Text.{fault_text, handed_text};
 ghost use Rattle.rh_session.specs.Taken.{Gives};
 ghost use Rattle.rh_session.specs.Outcome.{status_of};
 
@@ -11,8 +11,8 @@ use crate::desktop::Desktop;
 use crate::status::Status;
 use crate::taker::LineTaker;
 use rh_defs::sizes::LONGEST_LINE;
-use rh_defs::{Command, LineFault, Question};
-use rh_lines::{Pen, put_fault, put_first_line, read_line};
+use rh_defs::{Command, Data, Handle, LineFault, Question};
+use rh_lines::{Pen, put_fault, put_first_line, put_handed_line, read_line};
 
 /// A script in the middle of its run: the desktop, the place of each line's command, and whether a line was bad.
 #[derive(Drop)]
@@ -46,8 +46,10 @@ impl<D: Desktop> Session<D> {
         match &self.command {
             Command::Ask(question) => self.desktop.put_answer(question, pen),
             _ => {
+                let handed = self.desktop.handed(&self.command);
                 let reply = self.desktop.apply(&self.command);
                 put_first_line(&reply, pen);
+                put_handed(&handed, pen);
             }
         }
     }
@@ -91,6 +93,16 @@ impl<D: Desktop> LineTaker for Session<D> {
         }
         self.has_bad_line = true;
         put_fault(&cut_fault(rest), pen);
+    }
+}
+
+/// Writes the line about a message that was handed out, where one was.
+fn put_handed<P: Pen>(handed: &Option<(Handle, Data)>, pen: &mut P)
+    ensures { P.offered pen.new ≡ P.offered pen.old ++ handed_text handed.now }
+{
+    match handed {
+        Some(parts) => put_handed_line(parts.0, parts.1.as_slice(), pen),
+        None => {}
     }
 }
 

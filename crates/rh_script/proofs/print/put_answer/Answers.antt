@@ -14,3 +14,6 @@ returns-in-Status g c = rw (c.in-Status.is) c.print_status.ensures
 
 pub returns-in-Areas : goal.returns-in-Areas
 returns-in-Areas g c = rw (c.in-Areas.is) c.print_areas.ensures
+
+pub returns-in-Read : goal.returns-in-Read
+returns-in-Read g c = rw (c.in-Read.is) c.print_read.ensures

@@ -1,5 +1,5 @@
 use Rattle.rh_script.proofs.Common.{arith, bytes_of_named}
-use Rattle.rh_script.proofs.PrintLemmas.{spaced_put}
+use Rattle.rh_lines.proofs.SpacedLemmas.{spaced_put}
 use Rattle.rh_script.proofs.shown.print_bytes.Goals as goal
 
 pub returns : goal.returns

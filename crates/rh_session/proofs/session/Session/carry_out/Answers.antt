@@ -1,10 +1,9 @@
-use Rattle.std.proofs.Common.{refl, sym}
-use Rattle.rh_defs.specs.Commands.{step}
+use Rattle.std.proofs.Common.{ap, append_assoc, sym, ◌∙◌, ◌++◌}
 use Rattle.rh_defs.specs.Questions.{Nothing}
 use Rattle.rh_defs.specs.Range.{in_range}
-use Rattle.rh_defs.specs.Text.{first_line}
-use Rattle.rh_defs.proofs.QuestionLaws.{asked-stays, one-line, question-text}
-use Rattle.rh_session.proofs.RunLemmas.{or_false}
+use Rattle.rh_defs.specs.Text.{first_line, handed_text}
+use Rattle.rh_defs.proofs.QuestionLaws.{asked-stays, question-text}
+use Rattle.rh_session.proofs.RunLemmas.{command_text, or_false}
 use Rattle.rh_session.proofs.session.Session.carry_out.Goals as goal
 
 pub returns-in-Ask : goal.returns-in-Ask
@@ -20,16 +19,16 @@ returns-in-Ask g c = record {
 }
 
 pub returns-in_default : goal.returns-in_default
-returns-in_default g c = record {
-  text = first_line c.apply-reply.result Nothing;
-  meets = record {
-    desk = c.apply-reply.ensures.desk;
-    answer = λ d h. rw (
-      one-line (step d c.args.self.now.command).0 c.args.self.now.command (step d c.args.self.now.command).1 c.in_default.not-Ask,
-      ← c.apply-reply.ensures.reply d h,
-    )
-        refl;
-    bad = sym (or_false c.args.self.now.has_bad_line);
-  };
-  offered = c.put_first_line.ensures;
-}
+returns-in_default g c =
+    let first = first_line c.apply-reply.result Nothing in
+    let behind = handed_text c.handed-handed.result in
+    record {
+      text = first ++ behind;
+      meets = record {
+        desk = c.apply-reply.ensures.desk;
+        answer = λ d h. command_text d c.args.self.now.command c.apply-reply.result c.handed-handed.result c.in_default.not-Ask
+            (c.apply-reply.ensures.reply d h) (c.handed-handed.ensures d h);
+        bad = sym (or_false c.args.self.now.has_bad_line);
+      };
+      offered = c.put_handed.ensures ∙ ap (λ z. z ++ behind) c.put_first_line.ensures ∙ append_assoc (g.P.Pen.offered c.args.pen.now) first behind;
+    }
