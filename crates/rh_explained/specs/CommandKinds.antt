@@ -2,9 +2,9 @@
 use Rattle.std.specs.Prelude.{ℕ, ◌+◌, ◌-◌, if◌then◌else◌, List, [], ◌∷◌, codes, Option, Some, None, slice_get}
 use Rattle.std.specs.Str.{bytes_eq}
 use Rattle.rh_explained.specs.declared.command_kind.CommandKind.{CommandKind}
-use Rattle.rh_explained.specs.declared.command_kind.CommandKind.TheVariants.{Task, Kill, Save, Poll, Cancel, Repeat, Status, Alloc, Load, Put, Free, Extend, Mid, Show, Blocks, Claim, Release, Resize, Budge, Heap, Area, Make, Remove, Areas, Rma, RmaClaim, RmaFree, RmaResize}
+use Rattle.rh_explained.specs.declared.command_kind.CommandKind.TheVariants.{Task, Kill, Save, Poll, Cancel, Repeat, Status, Alloc, Load, Put, Free, Extend, Mid, Show, Blocks, Claim, Release, Resize, Budge, Heap, Area, Make, Remove, Areas, Rma, RmaClaim, RmaFree, RmaResize, Send, Read, Write, Transfer, Ack, Spool, Scrap}
 use Rattle.rh_explained.specs.declared.word_kind.WordKind.{WordKind}
-use Rattle.rh_explained.specs.declared.word_kind.WordKind.TheVariants.{NewName, TaskName, FileName, Anchor, Buffer, Size, Offset, Amount, AreaNumber, MadeNumber, MostPages, Id, Address, Bytes, Leaf, Manner, Direction, Switch, RmaWord}
+use Rattle.rh_explained.specs.declared.word_kind.WordKind.TheVariants.{NewName, TaskName, FileName, Anchor, Buffer, Size, Offset, Amount, AreaNumber, MadeNumber, MostPages, Id, Address, Bytes, Leaf, Manner, Direction, Switch, RmaWord, Code, Handle, AnsweredRef, ActionNumber, Data}
 
 -- the command on a block of the module area that the second word names
 abbrev pub rma_kind : List ℕ → CommandKind
@@ -59,6 +59,18 @@ area_kind first =
     else if bytes_eq first (codes "areas") then Some Areas
     else None
 
+-- one that is of tasks with code of their own
+abbrev pub program_kind : List ℕ → Option CommandKind
+program_kind first =
+    if bytes_eq first (codes "send") then Some Send
+    else if bytes_eq first (codes "read") then Some Read
+    else if bytes_eq first (codes "write") then Some Write
+    else if bytes_eq first (codes "transfer") then Some Transfer
+    else if bytes_eq first (codes "ack") then Some Ack
+    else if bytes_eq first (codes "spool") then Some Spool
+    else if bytes_eq first (codes "scrap") then Some Scrap
+    else None
+
 -- the first of two that is there
 abbrev pub first_of : Option CommandKind → Option CommandKind → Option CommandKind
 first_of (Some kind) other = Some kind
@@ -67,11 +79,12 @@ first_of None other = other
 -- the kind that a line's first two words name
 abbrev pub kind_named : List ℕ → List ℕ → Option CommandKind
 kind_named first second =
-    first_of (task_kind first) (first_of (flex_kind first) (first_of (heap_kind first second) (area_kind first)))
+    first_of (task_kind first) (first_of (flex_kind first) (first_of (heap_kind first second)
+    (first_of (area_kind first) (program_kind first))))
 
 -- the forms of a kind's lines; those of `rma` where no second word of a form follows
 abbrev pub forms : CommandKind → List ℕ
-forms Task = codes "task NAME BUF, task NAME BUF deaf or task NAME BUF file"
+forms Task = codes "task NAME BUF, task NAME BUF deaf, task NAME BUF file or task NAME BUF raw"
 forms Kill = codes "kill NAME"
 forms Save = codes "save NAME A TO LEAF"
 forms Poll = codes "poll NAME"
@@ -99,6 +112,13 @@ forms Rma = codes "rma claim N, rma free ADDR or rma resize ADDR DELTA"
 forms RmaClaim = codes "rma claim N"
 forms RmaFree = codes "rma free ADDR"
 forms RmaResize = codes "rma resize ADDR DELTA"
+forms Send = codes "send NAME CODE HANDLE REF ACTION [DATA]"
+forms Read = codes "read NAME ADDR N"
+forms Write = codes "write NAME ADDR HEX"
+forms Transfer = codes "transfer NAME ADDR HANDLE ADDR N"
+forms Ack = codes "ack NAME"
+forms Spool = codes "spool NAME A HANDLE REF"
+forms Scrap = codes "scrap NAME A"
 
 -- the kinds of the words behind those that name the kind; behind `rma` alone one of three is expected
 abbrev pub word_kinds : CommandKind → List WordKind
@@ -130,6 +150,13 @@ word_kinds Rma = RmaWord ∷ []
 word_kinds RmaClaim = Size ∷ []
 word_kinds RmaFree = Address ∷ []
 word_kinds RmaResize = Address ∷ Amount ∷ []
+word_kinds Send = TaskName ∷ Code ∷ Handle ∷ AnsweredRef ∷ ActionNumber ∷ Data ∷ []
+word_kinds Read = TaskName ∷ Address ∷ Size ∷ []
+word_kinds Write = TaskName ∷ Address ∷ Bytes ∷ []
+word_kinds Transfer = TaskName ∷ Address ∷ Handle ∷ Address ∷ Size ∷ []
+word_kinds Ack = TaskName ∷ []
+word_kinds Spool = TaskName ∷ Anchor ∷ Handle ∷ AnsweredRef ∷ []
+word_kinds Scrap = TaskName ∷ Anchor ∷ []
 
 -- so many words name the kind
 abbrev pub own_words : CommandKind → ℕ

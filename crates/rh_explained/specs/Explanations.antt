@@ -3,6 +3,7 @@
 use Rattle.std.specs.Prelude.{ℕ, ◌-◌, Bool, true, false, ◌==◌, ◌||◌, nat_lt, if◌then◌else◌, List, [], ◌++◌, codes, find, length, slice_index, Option, Some, None, Ok, Err}
 use Rattle.std.specs.Fmt.{decimal}
 use Rattle.rh_defs.specs.declared.command.Command.{Command}
+use Rattle.rh_defs.specs.declared.command.Command.TheVariants.{Raw}
 use Rattle.rh_defs.specs.declared.fault.LineFault.{LineFault}
 use Rattle.rh_defs.specs.declared.fault.LineFault.TheVariants.{TooLong, Unended, Unknown, Count, Word}
 use Rattle.rh_defs.specs.declared.refusal.Refusal.{Refusal}
@@ -16,7 +17,7 @@ use Rattle.rh_defs.specs.Line.{Meaning, nth_word, words_of}
 use Rattle.rh_defs.specs.Named.{name_in}
 use Rattle.rh_defs.specs.Text.{address}
 use Rattle.rh_explained.specs.CommandKinds.{forms, kind_at, kind_named}
-use Rattle.rh_explained.specs.Sentences.{help_for, why}
+use Rattle.rh_explained.specs.Sentences.{help_for, program_help, why}
 use Rattle.rh_explained.specs.ShownBytes.{shown_front}
 use Rattle.rh_explained.specs.declared.shown.TheConstants.{MOST_OF_LINE, MOST_OF_WORD}
 use Rattle.rh_explained.specs.Subjects.{address_in, anchor_in, area_in, facts_on, loaded_file, recipient_in}
@@ -178,14 +179,30 @@ abbrev pub busy_says : Option BlockUse → List ℕ
 busy_says None = codes "eight transfers that go out are open"
 busy_says (Some used) = why Busy ++ (codes ": " ++ use_says used)
 
+-- why a command of a task with code of its own was refused
+abbrev pub program_reason : Facts → Command → Refusal → List ℕ
+program_reason facts c Busy = codes "there is a scrap file already"
+program_reason facts c NoFile = codes "the task doesn't hold the message about a scrap file"
+program_reason facts c refusal = why refusal ++ detail facts c refusal
+
+-- why another command was refused
+abbrev pub own_reason : Facts → Command → Refusal → List ℕ
+own_reason facts c Busy = busy_says facts.used
+own_reason facts c refusal = why refusal ++ detail facts c refusal
+
 -- why a command was refused
 abbrev pub reason : Facts → Command → Refusal → List ℕ
-reason facts c Busy = busy_says facts.used
-reason facts c refusal = why refusal ++ detail facts c refusal
+reason facts (Raw c) refusal = program_reason facts (Raw c) refusal
+reason facts c refusal = own_reason facts c refusal
+
+-- what helps then
+abbrev pub help_of : Command → Refusal → List ℕ
+help_of (Raw c) refusal = program_help refusal
+help_of c refusal = help_for refusal
 
 -- the explanation of a refused command
 abbrev pub refusal_explained : Facts → ℕ → List ℕ → Command → Refusal → List ℕ
-refusal_explained facts n line c refusal = explained n (codes ": " ++ reason facts c refusal) line (help_for refusal)
+refusal_explained facts n line c refusal = explained n (codes ": " ++ reason facts c refusal) line (help_of c refusal)
 
 -- what is said of a command by its reply, on the desk behind it, which a refusal leaves as it was
 abbrev pub said_of : Desk → ℕ → List ℕ → Command → Reply → List ℕ

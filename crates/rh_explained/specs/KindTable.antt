@@ -3,13 +3,14 @@ use Rattle.std.specs.Prelude.{◌≡◌, [], map, codes, Some, slice_index_or}
 use Rattle.rh_defs.specs.declared.command.Command.{Command}
 use Rattle.rh_defs.specs.declared.command.Command.TheVariants as command
 use Rattle.rh_defs.specs.declared.question.Question.TheVariants as question
+use Rattle.rh_defs.specs.declared.raw_command.RawCommand.TheVariants as raw
 use Rattle.rh_defs.specs.Forms.{first_made, last_made, most_pages}
 use Rattle.rh_defs.specs.declared.sizes.TheConstants.{LONGEST_BUFFER}
 use Rattle.rh_defs.specs.Grammar as grammar
 use Rattle.rh_defs.specs.Grammar.{Form, GrammarRow, row_of_spelling, spelling}
 use Rattle.rh_explained.specs.CommandKinds.{kind_named, word_kinds}
 use Rattle.rh_explained.specs.declared.command_kind.CommandKind.{CommandKind}
-use Rattle.rh_explained.specs.declared.command_kind.CommandKind.TheVariants.{Task, Kill, Save, Poll, Cancel, Repeat, Status, Alloc, Load, Put, Free, Extend, Mid, Show, Blocks, Claim, Release, Resize, Budge, Heap, Area, Make, Remove, Areas, RmaClaim, RmaFree, RmaResize}
+use Rattle.rh_explained.specs.declared.command_kind.CommandKind.TheVariants.{Task, Kill, Save, Poll, Cancel, Repeat, Status, Alloc, Load, Put, Free, Extend, Mid, Show, Blocks, Claim, Release, Resize, Budge, Heap, Area, Make, Remove, Areas, RmaClaim, RmaFree, RmaResize, Send, Read, Write, Transfer, Ack, Spool, Scrap}
 use Rattle.rh_explained.specs.declared.word_kind.WordKind.{WordKind}
 use Rattle.rh_explained.specs.declared.word_kind.WordKind.TheVariants as word
 
@@ -30,10 +31,15 @@ form_of word.Id = grammar.Maybe grammar.Ref
 form_of word.Address = grammar.Address
 form_of word.Bytes = grammar.Bytes
 form_of word.Leaf = grammar.Leaf
-form_of word.Manner = grammar.Maybe (grammar.Choice (codes "deaf") (codes "file"))
+form_of word.Manner = grammar.Maybe grammar.MannerWord
 form_of word.Direction = grammar.Choice (codes "in") (codes "out")
 form_of word.Switch = grammar.Choice (codes "on") (codes "off")
 form_of word.RmaWord = grammar.Choice (codes "claim") (codes "free")
+form_of word.Code = grammar.Choice (codes "18") (codes "17")
+form_of word.Handle = grammar.Ref
+form_of word.AnsweredRef = grammar.AnyNumber
+form_of word.ActionNumber = grammar.AnyNumber
+form_of word.Data = grammar.Maybe grammar.Data
 
 -- the kind of a command
 abbrev pub kind_of : Command → CommandKind
@@ -60,7 +66,14 @@ kind_of (command.Remove k) = Remove
 kind_of (command.RmaClaim n) = RmaClaim
 kind_of (command.RmaFree place) = RmaFree
 kind_of (command.RmaResize place by) = RmaResize
+kind_of (command.Raw (raw.Send name recorded to ref action bytes)) = Send
+kind_of (command.Raw (raw.Write name place bytes)) = Write
+kind_of (command.Raw (raw.Transfer name place to other n)) = Transfer
+kind_of (command.Raw (raw.Ack name)) = Ack
+kind_of (command.Raw (raw.Spool name k to ref)) = Spool
+kind_of (command.Raw (raw.Scrap name k)) = Scrap
 kind_of (command.Ask (question.Show name k)) = Show
+kind_of (command.Ask (question.Read name place n)) = Read
 kind_of (command.Ask (question.Blocks name)) = Blocks
 kind_of (command.Ask (question.Heap name)) = Heap
 kind_of (command.Ask (question.Status name)) = Status

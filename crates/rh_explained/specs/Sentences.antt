@@ -1,13 +1,13 @@
 -- Sentences: what each command does, why a command is refused and what helps, and what no bad line needs a desk for.
 use Rattle.std.specs.Prelude.{ℕ, List, [], ◌∷◌, codes}
 use Rattle.rh_defs.specs.declared.refusal.Refusal.{Refusal}
-use Rattle.rh_defs.specs.declared.refusal.Refusal.TheVariants.{NameInUse, NoName, TooManyTasks, NoHandles, NoFile, NoBlock, AnchorInUse, NotABlock, NotYours, Busy, NotOpen, NothingSent, BadRange, BadSize, ExcessiveShrink, NoTask, NoRefs, QueueFull, NoBudge, NoRoom, NoArea, TooManyAreas, NoNumbers, TooBig}
+use Rattle.rh_defs.specs.declared.refusal.Refusal.TheVariants.{NameInUse, NoName, TooManyTasks, NoHandles, NoFile, NoBlock, AnchorInUse, NotABlock, NotYours, Busy, NotOpen, NothingSent, BadRange, BadSize, ExcessiveShrink, NoTask, NoRefs, QueueFull, NoBudge, NoRoom, NoArea, TooManyAreas, NoNumbers, TooBig, WrongManner, BadRef}
 use Rattle.rh_explained.specs.declared.command_kind.CommandKind.{CommandKind}
 use Rattle.rh_explained.specs.declared.command_kind.CommandKind.TheVariants as kind
 
 -- what a command of the kind does, in lines for a terminal
 abbrev pub deed : CommandKind → List ℕ
-deed kind.Task = codes "Starts a task. Its slot has one page. With deaf it ignores each file that it is\noffered; with file it answers no RAMFetch, and its files go by way of the scrap\nfile."
+deed kind.Task = codes "Starts a task. Its slot has one page. With deaf it ignores each file that it is\noffered; with file it answers no RAMFetch, and its files go by way of the scrap\nfile; with raw it has code of its own, which takes and sends its messages."
 deed kind.Kill = codes "Ends a task. Its pages are free again."
 deed kind.Save = codes "Offers the bytes of a flex block to a task as a file."
 deed kind.Poll = codes "Lets a task take the next message that waits for it, and do what that asks for."
@@ -35,6 +35,13 @@ deed kind.Rma = codes "Claims, releases or resizes a block of the module area."
 deed kind.RmaClaim = codes "Claims a block of N bytes in the module area."
 deed kind.RmaFree = codes "Releases a block of the module area."
 deed kind.RmaResize = codes "Makes a block of the module area longer or shorter."
+deed kind.Send = codes "Sends a message of any action, from a task with code of its own."
+deed kind.Read = codes "Asks for N bytes at an address of a task's slot, inside one live block."
+deed kind.Write = codes "Writes bytes at an address of a task with code of its own."
+deed kind.Transfer = codes "Moves N bytes to a place that another task opened, from one with its own code."
+deed kind.Ack = codes "Says that the message which a task holds is answered, and sends nothing."
+deed kind.Spool = codes "Makes a flex block the scrap file, and sends the message that tells of it."
+deed kind.Scrap = codes "Puts the bytes of the scrap file into a new flex block. The file stays."
 
 -- why a command is refused
 abbrev pub why : Refusal → List ℕ
@@ -62,6 +69,8 @@ why NoArea = codes "no area has this number"
 why TooManyAreas = codes "32 areas are made, and there may be no more"
 why NoNumbers = codes "the last number of an area has been given"
 why TooBig = codes "the area would have more pages than it may"
+why WrongManner = codes "this isn't for tasks of its manner"
+why BadRef = codes "no message has this ref yet"
 
 -- what helps then, where that is clear
 abbrev pub help_for : Refusal → List ℕ
@@ -89,12 +98,20 @@ help_for NoArea = codes "  areas lists the numbers, and make makes an area\n"
 help_for TooManyAreas = codes "  remove an area first\n"
 help_for NoNumbers = []
 help_for TooBig = codes "  make an area that may have more by make MAX\n"
+help_for WrongManner = codes "  raw tasks send by send or spool, and others by save\n"
+help_for BadRef = codes "  0 answers nothing\n"
+
+-- what helps with a command of a task with code of its own
+abbrev pub program_help : Refusal → List ℕ
+program_help NoFile = codes "  poll takes it, where one waits\n"
+program_help Busy = codes "  it goes when its DataLoad is loaded or answered\n"
+program_help refusal = help_for refusal
 
 -- the refusals that commands of a kind can have
 abbrev pub refusals : CommandKind → List Refusal
 refusals kind.Task = NameInUse ∷ TooManyTasks ∷ NoHandles ∷ NoRoom ∷ []
 refusals kind.Kill = NoName ∷ []
-refusals kind.Save = NoName ∷ NoBlock ∷ Busy ∷ NoTask ∷ NoRefs ∷ QueueFull ∷ NoRoom ∷ []
+refusals kind.Save = NoName ∷ NoBlock ∷ Busy ∷ NoTask ∷ NoRefs ∷ QueueFull ∷ NoRoom ∷ WrongManner ∷ []
 refusals kind.Poll = NoName ∷ []
 refusals kind.Cancel = NoName ∷ NotOpen ∷ []
 refusals kind.Repeat = NoName ∷ NothingSent ∷ NoTask ∷ NoRefs ∷ QueueFull ∷ NoRoom ∷ []
@@ -120,3 +137,10 @@ refusals kind.Rma = NotABlock ∷ NotYours ∷ BadSize ∷ NoRoom ∷ []
 refusals kind.RmaClaim = BadSize ∷ NoRoom ∷ []
 refusals kind.RmaFree = NotABlock ∷ NotYours ∷ []
 refusals kind.RmaResize = NotABlock ∷ NotYours ∷ BadSize ∷ NoRoom ∷ []
+refusals kind.Send = NoName ∷ NoTask ∷ NoRefs ∷ QueueFull ∷ NoRoom ∷ WrongManner ∷ BadRef ∷ []
+refusals kind.Read = NoName ∷ BadRange ∷ []
+refusals kind.Write = NoName ∷ BadRange ∷ WrongManner ∷ []
+refusals kind.Transfer = NoName ∷ BadRange ∷ NoTask ∷ WrongManner ∷ []
+refusals kind.Ack = NoName ∷ WrongManner ∷ []
+refusals kind.Spool = NoName ∷ NoBlock ∷ Busy ∷ NoTask ∷ NoRefs ∷ QueueFull ∷ NoRoom ∷ WrongManner ∷ BadRef ∷ []
+refusals kind.Scrap = NoName ∷ NoFile ∷ AnchorInUse ∷ NoRoom ∷ WrongManner ∷ []

@@ -3,8 +3,9 @@ use Rattle.std.specs.Prelude.{ℕ, if◌then◌else◌, List, Option, Some, None
 use Rattle.std.specs.Option.{option_map}
 use Rattle.std.specs.Result.{result_ok}
 use Rattle.rh_defs.specs.declared.command.Command.{Command}
-use Rattle.rh_defs.specs.declared.command.Command.TheVariants.{Alloc, Load, Put, Free, Extend, Mid, Release, Resize, Save, Area, Remove, RmaFree, RmaResize, Ask}
+use Rattle.rh_defs.specs.declared.command.Command.TheVariants.{Alloc, Load, Put, Free, Extend, Mid, Release, Resize, Save, Area, Remove, RmaFree, RmaResize, Raw, Ask}
 use Rattle.rh_defs.specs.declared.question.Question.TheVariants.{Show}
+use Rattle.rh_defs.specs.declared.raw_command.RawCommand.TheVariants.{Spool, Scrap}
 use Rattle.rh_defs.specs.declared.transfer.Outgoing.{Outgoing}
 use Rattle.rh_defs.specs.declared.transfer.Incoming.{Incoming}
 use Rattle.rh_defs.specs.Desk.{Desk, free_pages}
@@ -25,6 +26,8 @@ anchor_in (Free name k) = Some k
 anchor_in (Extend name k n) = Some k
 anchor_in (Mid name k offset by) = Some k
 anchor_in (Save name k to leaf) = Some k
+anchor_in (Raw (Spool name k to ref)) = Some k
+anchor_in (Raw (Scrap name k)) = Some k
 anchor_in (Ask (Show name k)) = Some k
 anchor_in c = None
 

@@ -1,7 +1,7 @@
 -- The kinds of words: how each is written in a form, and what one of the kind is.
 use Rattle.std.specs.Prelude.{ℕ, List, codes}
 use Rattle.rh_explained.specs.declared.word_kind.WordKind.{WordKind}
-use Rattle.rh_explained.specs.declared.word_kind.WordKind.TheVariants.{NewName, TaskName, FileName, Anchor, Buffer, Size, Offset, Amount, AreaNumber, MadeNumber, MostPages, Id, Address, Bytes, Leaf, Manner, Direction, Switch, RmaWord}
+use Rattle.rh_explained.specs.declared.word_kind.WordKind.TheVariants.{NewName, TaskName, FileName, Anchor, Buffer, Size, Offset, Amount, AreaNumber, MadeNumber, MostPages, Id, Address, Bytes, Leaf, Manner, Direction, Switch, RmaWord, Code, Handle, AnsweredRef, ActionNumber, Data}
 
 -- what a word of the kind has to be
 abbrev pub expected : WordKind → List ℕ
@@ -20,7 +20,12 @@ expected Id = codes "an id is 1 to 4294967295"
 expected Address = codes "an address is & and 1 to 8 hexadecimal digits"
 expected Bytes = codes "bytes are hexadecimal digits, two for each"
 expected Leaf = codes "a leafname has 1 to 10 characters"
-expected Manner = codes "this word is deaf or file, or left out"
+expected Manner = codes "this word is deaf, file or raw, or left out"
 expected Direction = codes "this word is in or out"
 expected Switch = codes "this word is on or off"
 expected RmaWord = codes "this word is claim, free or resize"
+expected Code = codes "this word is 17 or 18"
+expected Handle = codes "a handle is 1 to 4294967295"
+expected AnsweredRef = codes "a ref is 0 to 4294967295, and 0 answers nothing"
+expected ActionNumber = codes "an action is 0 to 4294967295"
+expected Data = codes "data are hexadecimal digits, eight for each word, or left out"

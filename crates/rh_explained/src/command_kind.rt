@@ -3,14 +3,15 @@
 ghost use Rattle.std.specs.Prelude.{◌≡◌};
 ghost use Rattle.std.specs.Str.{bytes_eq};
 ghost use Rattle.rh_explained.specs.CommandKinds.{area_kind, flex_kind, heap_kind, kind_at as kind_of_word, kind_named};
-ghost use Rattle.rh_explained.specs.CommandKinds.{own_words as words_of_own, rma_kind, task_kind};
+ghost use Rattle.rh_explained.specs.CommandKinds.{own_words as words_of_own, program_kind, rma_kind, task_kind};
 ghost use Rattle.rh_explained.specs.CommandKinds.{word_kinds as kinds_of_words};
 ghost use Rattle.rh_explained.specs.Explanations.{kind_in};
 
 use crate::word_kind::WordKind;
 use crate::word_kind::WordKind::{
-    Address, Amount, Anchor, AreaNumber, Buffer, Bytes, Direction, FileName, Id, Leaf, MadeNumber,
-    Manner, MostPages, NewName, Offset, RmaWord, Size, Switch, TaskName,
+    ActionNumber, Address, Amount, Anchor, AnsweredRef, AreaNumber, Buffer, Bytes, Code, Data,
+    Direction, FileName, Handle, Id, Leaf, MadeNumber, Manner, MostPages, NewName, Offset, RmaWord,
+    Size, Switch, TaskName,
 };
 use crate::words::word_of;
 
@@ -46,6 +47,13 @@ pub enum CommandKind {
     RmaClaim,
     RmaFree,
     RmaResize,
+    Send,
+    Read,
+    Write,
+    Transfer,
+    Ack,
+    Spool,
+    Scrap,
 }
 
 impl CommandKind {
@@ -69,7 +77,10 @@ impl CommandKind {
         if let Some(kind) = heap_kind(first, second) {
             return Some(kind);
         }
-        area_kind(first)
+        if let Some(kind) = area_kind(first) {
+            return Some(kind);
+        }
+        program_kind(first)
     }
 
     /// The kinds of the words behind those that name it.
@@ -83,13 +94,14 @@ impl CommandKind {
             | CommandKind::Repeat
             | CommandKind::Status
             | CommandKind::Blocks
-            | CommandKind::Heap => &[TaskName],
+            | CommandKind::Heap
+            | CommandKind::Ack => &[TaskName],
             CommandKind::Save => &[TaskName, Anchor, TaskName, Leaf],
             CommandKind::Cancel => &[TaskName, Direction, Id],
             CommandKind::Alloc | CommandKind::Extend => &[TaskName, Anchor, Size],
             CommandKind::Load => &[TaskName, Anchor, FileName],
             CommandKind::Put => &[TaskName, Anchor, Offset, Bytes],
-            CommandKind::Free | CommandKind::Show => &[TaskName, Anchor],
+            CommandKind::Free | CommandKind::Show | CommandKind::Scrap => &[TaskName, Anchor],
             CommandKind::Mid => &[TaskName, Anchor, Offset, Amount],
             CommandKind::Claim => &[TaskName, Size],
             CommandKind::Release => &[TaskName, Address],
@@ -103,6 +115,11 @@ impl CommandKind {
             CommandKind::RmaClaim => &[Size],
             CommandKind::RmaFree => &[Address],
             CommandKind::RmaResize => &[Address, Amount],
+            CommandKind::Send => &[TaskName, Code, Handle, AnsweredRef, ActionNumber, Data],
+            CommandKind::Read => &[TaskName, Address, Size],
+            CommandKind::Write => &[TaskName, Address, Bytes],
+            CommandKind::Transfer => &[TaskName, Address, Handle, Address, Size],
+            CommandKind::Spool => &[TaskName, Anchor, Handle, AnsweredRef],
         }
     }
 
@@ -206,6 +223,29 @@ fn area_kind(first: &[u8]) -> Option<CommandKind>
         Some(CommandKind::Remove)
     } else if is(first, b"areas") {
         Some(CommandKind::Areas)
+    } else {
+        None
+    }
+}
+
+/// One that is of tasks with code of their own.
+fn program_kind(first: &[u8]) -> Option<CommandKind>
+    ensures { result ≡ program_kind first.now }
+{
+    if is(first, b"send") {
+        Some(CommandKind::Send)
+    } else if is(first, b"read") {
+        Some(CommandKind::Read)
+    } else if is(first, b"write") {
+        Some(CommandKind::Write)
+    } else if is(first, b"transfer") {
+        Some(CommandKind::Transfer)
+    } else if is(first, b"ack") {
+        Some(CommandKind::Ack)
+    } else if is(first, b"spool") {
+        Some(CommandKind::Spool)
+    } else if is(first, b"scrap") {
+        Some(CommandKind::Scrap)
     } else {
         None
     }

@@ -3,13 +3,14 @@
 ghost use Rattle.std.specs.Prelude.{◌≡◌, ◌++◌};
 ghost use Rattle.std.specs.Option.{option_map};
 ghost use Rattle.rh_explained.specs.Explanations.{busy_says, detail, detail_address, detail_name, detail_number};
-ghost use Rattle.rh_explained.specs.Explanations.{detail_size, reason, refusal_explained, use_says};
+ghost use Rattle.rh_explained.specs.Explanations.{detail_size, help_of as help_of_command, own_reason, program_reason};
+ghost use Rattle.rh_explained.specs.Explanations.{reason, refusal_explained, use_says};
 
 use crate::block_use::BlockUse;
 use crate::facts::Facts;
 use crate::faults::{put_below, put_number};
 use crate::numbers::{put_address, put_decimal};
-use crate::sentences::{help_for, why};
+use crate::sentences::{help_for, program_help, why};
 use crate::subjects::{address_in, anchor_in, area_in, loaded_file, recipient_in};
 use rh_defs::{Anchor, Command, Name, Refusal};
 use rh_lines::Pen;
@@ -28,18 +29,52 @@ pub fn put_refused<P: Pen>(
     put_number(number, pen);
     pen.put(b": ");
     put_reason(facts, command, refusal, pen);
-    put_below(line, help_for(refusal), pen);
+    put_below(line, help_of(command, refusal), pen);
+}
+
+/// What helps with a refused command.
+fn help_of(command: &Command, refusal: Refusal) -> &'static [u8]
+    ensures { result.now ≡ help_of_command command.now refusal }
+{
+    match command {
+        Command::Raw(_) => program_help(refusal),
+        _ => help_for(refusal),
+    }
 }
 
 /// Says why a command was refused.
 fn put_reason<P: Pen>(facts: &Facts, command: &Command, refusal: Refusal, pen: &mut P)
     ensures { P.offered pen.new ≡ P.offered pen.old ++ reason facts.now command.now refusal }
 {
+    match command {
+        Command::Raw(_) => put_program_reason(facts, command, refusal, pen),
+        _ => put_own_reason(facts, command, refusal, pen),
+    }
+}
+
+/// Says why a command but those of tasks with code of their own was refused.
+fn put_own_reason<P: Pen>(facts: &Facts, command: &Command, refusal: Refusal, pen: &mut P)
+    ensures { P.offered pen.new ≡ P.offered pen.old ++ own_reason facts.now command.now refusal }
+{
     if let Refusal::Busy = refusal {
         put_busy(facts.used, pen);
     } else {
         pen.put(why(refusal));
         put_detail(facts, command, refusal, pen);
+    }
+}
+
+/// Says why a command of a task with code of its own was refused.
+fn put_program_reason<P: Pen>(facts: &Facts, command: &Command, refusal: Refusal, pen: &mut P)
+    ensures { P.offered pen.new ≡ P.offered pen.old ++ program_reason facts.now command.now refusal }
+{
+    match refusal {
+        Refusal::Busy => pen.put(b"there is a scrap file already"),
+        Refusal::NoFile => pen.put(b"the task doesn't hold the message about a scrap file"),
+        _ => {
+            pen.put(why(refusal));
+            put_detail(facts, command, refusal, pen);
+        }
     }
 }
 

@@ -1,7 +1,8 @@
 //! Why commands are refused, in words, and what helps.
 
 ghost use Rattle.std.specs.Prelude.{◌≡◌};
-ghost use Rattle.rh_explained.specs.Sentences.{help_for as help_text, why as why_text};
+ghost use Rattle.rh_explained.specs.Sentences.{help_for as help_text, program_help as program_help_text};
+ghost use Rattle.rh_explained.specs.Sentences.{why as why_text};
 
 use rh_defs::Refusal;
 
@@ -34,6 +35,8 @@ pub fn why(refusal: Refusal) -> &'static [u8]
         Refusal::TooManyAreas => b"32 areas are made, and there may be no more",
         Refusal::NoNumbers => b"the last number of an area has been given",
         Refusal::TooBig => b"the area would have more pages than it may",
+        Refusal::WrongManner => b"this isn't for tasks of its manner",
+        Refusal::BadRef => b"no message has this ref yet",
     }
 }
 
@@ -66,5 +69,18 @@ pub fn help_for(refusal: Refusal) -> &'static [u8]
         Refusal::TooManyAreas => b"  remove an area first\n",
         Refusal::NoNumbers => b"",
         Refusal::TooBig => b"  make an area that may have more by make MAX\n",
+        Refusal::WrongManner => b"  raw tasks send by send or spool, and others by save\n",
+        Refusal::BadRef => b"  0 answers nothing\n",
+    }
+}
+
+/// What helps then with a command of a task with code of its own.
+pub fn program_help(refusal: Refusal) -> &'static [u8]
+    ensures { result.now ≡ program_help_text refusal }
+{
+    match refusal {
+        Refusal::NoFile => b"  poll takes it, where one waits\n",
+        Refusal::Busy => b"  it goes when its DataLoad is loaded or answered\n",
+        _ => help_for(refusal),
     }
 }

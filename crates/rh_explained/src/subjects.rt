@@ -6,7 +6,7 @@ ghost use Rattle.rh_explained.specs.Subjects.{address_in as address_named, ancho
 ghost use Rattle.rh_explained.specs.Subjects.{area_in as area_named, loaded_file as file_named};
 ghost use Rattle.rh_explained.specs.Subjects.{recipient_in as recipient_named};
 
-use rh_defs::{Anchor, Command, Name, Question};
+use rh_defs::{Anchor, Command, Name, Question, RawCommand};
 
 /// The anchor that a command names.
 pub fn anchor_in(command: &Command) -> Option<Anchor>
@@ -20,6 +20,8 @@ pub fn anchor_in(command: &Command) -> Option<Anchor>
         | Command::Extend { anchor, .. }
         | Command::Mid { anchor, .. }
         | Command::Save { anchor, .. }
+        | Command::Raw(RawCommand::Spool { anchor, .. })
+        | Command::Raw(RawCommand::Scrap { anchor, .. })
         | Command::Ask(Question::Show { anchor, .. }) => Some(*anchor),
         _ => None,
     }

@@ -44,6 +44,16 @@ pub enum WordKind {
     Switch,
     /// What is done with a block of the module area.
     RmaWord,
+    /// The event code of a message: whether it comes back where it is not answered.
+    Code,
+    /// The handle of a task.
+    Handle,
+    /// The ref of the message that is answered.
+    AnsweredRef,
+    /// The action of a message.
+    ActionNumber,
+    /// The data of a message.
+    Data,
 }
 
 impl WordKind {
@@ -66,10 +76,15 @@ impl WordKind {
             WordKind::Address => b"an address is & and 1 to 8 hexadecimal digits",
             WordKind::Bytes => b"bytes are hexadecimal digits, two for each",
             WordKind::Leaf => b"a leafname has 1 to 10 characters",
-            WordKind::Manner => b"this word is deaf or file, or left out",
+            WordKind::Manner => b"this word is deaf, file or raw, or left out",
             WordKind::Direction => b"this word is in or out",
             WordKind::Switch => b"this word is on or off",
             WordKind::RmaWord => b"this word is claim, free or resize",
+            WordKind::Code => b"this word is 17 or 18",
+            WordKind::Handle => b"a handle is 1 to 4294967295",
+            WordKind::AnsweredRef => b"a ref is 0 to 4294967295, and 0 answers nothing",
+            WordKind::ActionNumber => b"an action is 0 to 4294967295",
+            WordKind::Data => b"data are hexadecimal digits, eight for each word, or left out",
         }
     }
 }
