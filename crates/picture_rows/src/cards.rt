@@ -24,6 +24,7 @@ pub(crate) fn print_cards<P: Pen>(pen: &mut P) {
         fresh: false,
     };
     print_used_card(&buffer, pen);
-    print_hole_card(0x180_0010, 64, pen);
+    print_hole_card(0x180_0010, 64, false, pen);
+    print_hole_card(0x180_0060, 24, true, pen);
     print_more_card(2, pen);
 }

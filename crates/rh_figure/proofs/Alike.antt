@@ -1,11 +1,14 @@
 -- Desks that differ in the order of messages to different tasks alone have the same pictures.
-use Rattle.std.proofs.Common.{ℕ, ◌+◌, ◌≡◌, refl, sym, ap, ap₂, ◌∙◌, Bool, false, List, [], ◌∷◌, ◌++◌}
-use Rattle.std.specs.Prelude.{Option, Some, None, Ok, Err, ◌&&◌, ◌||◌, not, if◌then◌else◌}
+use Rattle.std.proofs.Common.{ℕ, ◌+◌, ◌≡◌, refl, sym, ap, ap₂, ◌∙◌, Bool, true, false, List, [], ◌∷◌, ◌++◌}
+use Rattle.std.specs.Prelude.{Option, Some, None, Ok, Err, ◌&&◌, ◌||◌, not, if◌then◌else◌, map}
+use Rattle.std.specs.List.{flat_map}
 use Rattle.rh_defs.specs.declared.command.Command.{Command}
 use Rattle.rh_defs.specs.declared.command.Command.TheVariants as command
 use Rattle.rh_defs.specs.declared.reply.Reply.{Reply}
 use Rattle.rh_defs.specs.declared.fault.LineFault.{LineFault}
+use Rattle.rh_defs.specs.declared.message.MessageItem.{MessageItem}
 use Rattle.rh_defs.specs.Messages.{Parcel}
+use Rattle.rh_defs.specs.Post.{Seat}
 use Rattle.rh_defs.specs.Desk.{Desk, Task}
 use Rattle.rh_defs.specs.Questions.{Nothing, begins}
 use Rattle.rh_defs.specs.Range.{can_be_asked}
@@ -15,7 +18,8 @@ use Rattle.rh_defs.specs.Text.{answer_text, first_line, reply_text, fault_text}
 use Rattle.rh_defs.proofs.QuestionLaws.{asked-requeued}
 use Rattle.rh_defs.proofs.Steps.{order-ignored}
 use Rattle.rh_figure.specs.Share.{Share}
-use Rattle.rh_figure.specs.Scene.{Before, Marks, no_marks, is_still, before_of, before_task, task_in, marks_of, scene_of}
+use Rattle.rh_figure.specs.Scene.{Before, Marks, no_marks, is_still, before_of, before_task, task_in, handle_of, size_named, seen_item, held_on, message_items}
+use Rattle.rh_figure.specs.Scene.{marks_of, scene_of}
 use Rattle.rh_figure.specs.Map.{step_lines, command_lines, fault_lines, is_mark, remark_lines}
 use Rattle.rh_figure.specs.FigureLaws.{ShowsNoOrder}
 
@@ -30,19 +34,62 @@ scene-alike {a} {b} is s f m =
     ∙ ap (λ waits. record { desk = with_queue [] a; waits = waits; share = s; before = f; marks = m }) (same-values
     (λ h. sym (is.same.each h)))
 
-before-requeued : (queue : List Parcel) (d : Desk) (t : Option Task)
-    → before_task (with_queue queue d) t ≡ before_task d t
-before-requeued queue d None = refl
-before-requeued queue d (Some t) = refl
+-- all messages, by those that wait for each handle
+abbrev items_by : (ℕ → List Parcel) → Desk → List MessageItem
+items_by waits d =
+    map (seen_item false) (flat_map (λ (s : Seat). waits s.handle) d.post.seats) ++ map (seen_item true) (held_on d)
+
+messages-alike : {a b : Desk} → IsReordered a b → message_items b ≡ message_items a
+messages-alike {a} {b} is =
+    ap message_items is.rest ∙ ap (λ waits. items_by waits a) (same-values (λ h. sym (is.same.each h)))
+
+-- what is kept but for the messages
+abbrev with_messages : List MessageItem → Before → Before
+with_messages messages f = record f { messages = messages }
+
+before-requeued : (queue : List Parcel) (n : ℕ) (d : Desk) (t : Option Task)
+    → before_task n (with_queue queue d) t ≡ with_messages (message_items (with_queue queue d)) (before_task n d t)
+before-requeued queue n d None = refl
+before-requeued queue n d (Some t) = refl
+
+before-kept : (n : ℕ) (d : Desk) (t : Option Task) → with_messages (message_items d) (before_task n d t) ≡ before_task n d t
+before-kept n d None = refl
+before-kept n d (Some t) = refl
 
 task_in-requeued : (queue : List Parcel) (d : Desk) (c : Option Command) → task_in c (with_queue queue d) ≡ task_in c d
 task_in-requeued queue d None = refl
 task_in-requeued queue d (Some c) = refl
 
+size-requeued : (queue : List Parcel) (d : Desk) (h : ℕ) (c : Option Command)
+    → size_named h c (with_queue queue d) ≡ size_named h c d
+size-requeued queue d h None = refl
+size-requeued queue d h (Some (command.Release name a)) = refl
+size-requeued queue d h (Some (command.Resize name a delta)) = refl
+size-requeued queue d h (Some (command.RmaFree a)) = refl
+size-requeued queue d h (Some (command.RmaResize a delta)) = refl
+size-requeued queue d h (Some c) = refl
+
+-- what is kept of a desk with another queue
+kept-requeued : (queue : List Parcel) (d : Desk) (c : Option Command)
+    → before_of (with_queue queue d) c ≡ with_messages (message_items (with_queue queue d)) (before_of d c)
+kept-requeued queue d c =
+    ap (λ t. before_task (size_named (handle_of t) c (with_queue queue d)) (with_queue queue d) t)
+    (task_in-requeued queue d c)
+    ∙ (
+    ap (λ n. before_task n (with_queue queue d) (task_in c d)) (size-requeued queue d (handle_of (task_in c d)) c)
+    ∙ before-requeued queue (size_named (handle_of (task_in c d)) c d) d (task_in c d)
+    )
+
 pub before-alike : {a b : Desk} → IsReordered a b → (c : Option Command) → before_of b c ≡ before_of a c
 before-alike {a} {b} is c =
-    ap (λ d. before_of d c) is.rest ∙ (ap (before_task (with_queue b.post.queued a))
-    (task_in-requeued b.post.queued a c) ∙ before-requeued b.post.queued a (task_in c a))
+    ap (λ d. before_of d c) is.rest
+    ∙ (
+    kept-requeued b.post.queued a c
+    ∙ (
+    ap (λ messages. with_messages messages (before_of a c)) (sym (ap message_items is.rest) ∙ messages-alike is)
+    ∙ before-kept (size_named (handle_of (task_in c a)) c a) a (task_in c a)
+    )
+    )
 
 marks-requeued : (queue : List Parcel) (d : Desk) (f : Before) (c : Option Command) (r : Reply)
     → marks_of (with_queue queue d) f c r ≡ marks_of d f c r

@@ -155,6 +155,7 @@ pub sliding_map : map_of sliding_script 64 ≡ text_of (
     ∷ codes "6  claim a 4000"
     ∷ codes "ok &8114"
     ∷ codes "  Slot a takes page 60"
+    ∷ codes "  Heap block &8114 is new: 4004 bytes, on top"
     ∷ codes "  1 block slides up by 4096 bytes: its anchor holds &A008 now"
     ∷ codes ""
     ∷ codes "Pool: 60 of 64 pages free"

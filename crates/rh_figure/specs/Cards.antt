@@ -16,7 +16,7 @@ use Rattle.rh_defs.specs.Desk.{Task, module_start}
 use Rattle.rh_defs.specs.Text.{address, action_name}
 use Rattle.rh_figure.specs.Scene.{Scene, ref_of, message_of_scene}
 use Rattle.rh_figure.specs.Phrases.{Text, size_text, bytes_text, task_name, is_returned}
-use Rattle.rh_figure.specs.Layout.{is_fresh_flex, is_fresh_block, is_new_message}
+use Rattle.rh_figure.specs.Layout.{is_fresh_flex, is_fresh_block, is_new_message, vacates}
 use Rattle.rh_figure.specs.declared.limits.TheConstants.{MOST_CARDS}
 
 -- what a card is about
@@ -71,13 +71,13 @@ flex_cards x t = flex_cards_from x t (flex_start t.slot) t.slot.blocks
 
 -- ---- a slot's C heap
 
-abbrev pub hole_card : ℕ → ℕ → Card
-hole_card place n = record {
+abbrev pub hole_card : ℕ → ℕ → Bool → Card
+hole_card place n fresh = record {
   kind = HoleCard;
   first = codes "hole " ++ address place;
   second = size_text n;
   third = [];
-  fresh = false;
+  fresh = fresh;
 }
 
 -- a block that a transfer uses is its buffer
@@ -97,7 +97,7 @@ use_of_buffer t at = in_use_text (find (is_buffer_of at) t.taking)
 abbrev pub heap_card : Scene → Task → ℕ → Segment → Card
 heap_card x t place (Used bytes) =
     used_card (place + 4) bytes (use_of_buffer t (place + 4)) (is_fresh_block x t.handle (place + 4))
-heap_card x t place (Hole n) = hole_card place n
+heap_card x t place (Hole n) = hole_card place n (vacates t.handle place n x.marks.heap_effect)
 
 -- segments that lie from an address on
 abbrev pub cards_from : (ℕ → Segment → Card) → ℕ → List Segment → List Card
@@ -150,7 +150,7 @@ post_or_used_card x at bytes None = used_card at bytes [] (x.marks.module_block 
 
 abbrev pub module_card : Scene → ℕ → Segment → Card
 module_card x place (Used bytes) = post_or_used_card x (place + 4) bytes (message_of_scene x (place + 4 - module_start))
-module_card x place (Hole n) = hole_card place n
+module_card x place (Hole n) = hole_card place n (vacates 0 place n x.marks.heap_effect)
 
 abbrev pub module_cards : Scene → List Card
 module_cards x = cards_from (module_card x) (module_start + first_place) x.desk.post.heap.segments

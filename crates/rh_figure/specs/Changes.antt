@@ -1,10 +1,13 @@
 -- What a command has changed, in words. Read Scene first.
 -- x is the scene, o an owner with its number of pages, k an anchor, n a number of a page, b a flex block.
-use Rattle.std.specs.Prelude.{ℕ, ◌-◌, ◌==◌, nat_le, nat_lt, ◌&&◌, not, Bool, if◌then◌else◌, List, [], ◌∷◌, ◌++◌, length, drop, map, filter, find, codes, Option, Some, None}
+use Rattle.std.specs.Prelude.{ℕ, ◌-◌, ◌==◌, nat_le, nat_lt, ◌&&◌, not, Bool, false, if◌then◌else◌, List, [], ◌∷◌, ◌++◌, length, drop, map, filter, find, codes, Option, Some, None}
 use Rattle.std.specs.List.{list_all, list_any, flat_map, concat}
 use Rattle.std.specs.Fmt.{decimal}
 use Rattle.rh_defs.specs.declared.question.BlockItem.{BlockItem}
 use Rattle.rh_defs.specs.declared.message.Action.{Action}
+use Rattle.rh_defs.specs.declared.message.EventCode.{EventCode}
+use Rattle.rh_defs.specs.declared.message.EventCode.TheVariants as event
+use Rattle.rh_defs.specs.declared.message.MessageItem.{MessageItem}
 use Rattle.rh_defs.specs.declared.message.Body.{Body}
 use Rattle.rh_defs.specs.declared.message.Body.TheVariants.{RamTransmit}
 use Rattle.rh_defs.specs.declared.message.Letter.{Letter}
@@ -14,9 +17,10 @@ use Rattle.rh_defs.specs.Questions.{block_items}
 use Rattle.rh_defs.specs.Bytes.{space}
 use Rattle.rh_defs.specs.Text.{action_name, address, on_or_off}
 use Rattle.rh_figure.specs.Share.{Holding, count_of, holdings}
-use Rattle.rh_figure.specs.Scene.{Scene, Effect, NoEffect, Begun, Ended, Budging, Longer, Shorter, Made, Removed, GivenUp, Written, waiting}
+use Rattle.rh_figure.specs.Scene.{Scene, Effect, NoEffect, Begun, Ended, Budging, Longer, Shorter, Made, Removed, GivenUp, Written, waiting, live}
+use Rattle.rh_figure.specs.HeapChanges.{heap_text}
 use Rattle.rh_figure.specs.Phrases.{Text, area_name, size_text, pages_text, where_so, listed_numbers, task_name, owner_name, is_returned}
-use Rattle.rh_figure.specs.declared.limits.TheConstants.{MOST_TOLD}
+use Rattle.rh_figure.specs.declared.limits.TheConstants.{MOST_FATES, MOST_TOLD}
 
 -- ---- effects
 
@@ -184,12 +188,32 @@ slide_change (s ∷ ss) = slide_line (length (s ∷ ss)) s.from s.to ∷ []
 
 -- ---- messages
 
+-- whether a message that didn't come back before the command is among some
+abbrev pub was_out : ℕ → List MessageItem → Bool
+was_out ref messages = list_any (λ (m : MessageItem). m.my_ref == ref && not (is_returned m.code)) messages
+
+-- the messages that the command sent back to those who sent them
+abbrev pub bouncing : Scene → List Parcel
+bouncing x = filter (λ (p : Parcel). is_returned p.code && was_out p.message.my_ref x.before.messages) (waiting x)
+
 abbrev pub returns_line : Action → ℕ → Text → Text
-returns_line action ref who =
-    concat (action_name action ∷ codes " " ∷ decimal ref ∷ codes " goes back to " ∷ who ∷ [])
+returns_line action ref who = concat (
+    action_name action ∷ codes " " ∷ decimal ref ∷ codes " bounces: it goes back to " ∷ who ∷ codes " with code 19" ∷ []
+    )
 
 abbrev pub returns_text : Scene → Parcel → Text
 returns_text x p = returns_line (action_of p.message.body) p.message.my_ref (task_name x.desk p.to)
+
+abbrev pub all_return_line : ℕ → Text
+all_return_line n = decimal n ++ codes " messages bounce: they go back to those who sent them with code 19"
+
+-- few things each by a line of its own, of more their number
+abbrev pub few_or_count : {A : Type 0} → (A → Text) → (ℕ → Text) → List A → List Text
+few_or_count line count things =
+    if nat_lt MOST_FATES (length things) then count (length things) ∷ [] else map line things
+
+abbrev pub bounced_text : Scene → List Text
+bounced_text x = few_or_count (returns_text x) all_return_line (bouncing x)
 
 abbrev pub takes_line : Text → Action → ℕ → Text
 takes_line who action ref = concat (who ∷ codes " takes " ∷ action_name action ∷ codes " " ∷ decimal ref ∷ [])
@@ -197,6 +221,52 @@ takes_line who action ref = concat (who ∷ codes " takes " ∷ action_name acti
 abbrev pub taken_text : Scene → Option (ℕ × Action) → List Text
 taken_text x None = []
 taken_text x (Some taken) = takes_line (task_name x.desk x.marks.handle) taken.1 taken.0 ∷ []
+
+-- whether a message is the one that the command took
+abbrev pub is_taken : ℕ → Option (ℕ × Action) → Bool
+is_taken ref None = false
+is_taken ref (Some taken) = taken.0 == ref
+
+-- whether a message is the one that the letter of the command answers
+abbrev pub answers_ref : ℕ → Option (Letter × ℕ) → Bool
+answers_ref ref None = false
+answers_ref ref (Some sent) = sent.0.your_ref == ref
+
+abbrev pub is_live : Scene → ℕ → Bool
+is_live x ref = list_any (λ (p : Parcel). p.message.my_ref == ref) (live x)
+
+-- whether a message that was there before the command has vanished: it is gone, and nobody took or answered it
+abbrev pub has_vanished : Scene → MessageItem → Bool
+has_vanished x m =
+    not (is_live x m.my_ref) && not (is_taken m.my_ref x.marks.taken) && not (answers_ref m.my_ref x.marks.sent)
+
+abbrev pub vanished : Scene → List MessageItem
+vanished x = filter (has_vanished x) x.before.messages
+
+-- the name of a task before the command, by what that did: it may have ended the task that it names
+abbrev pub name_before : Scene → ℕ → Effect → Text
+name_before x h (Ended name) = if h == x.before.handle then name else task_name x.desk h
+name_before x h _ = task_name x.desk h
+
+-- why a message vanished that was for the one task, and was sent by the other, by its event code
+abbrev pub why_text : Text → Text → EventCode → Text
+why_text to from event.User = concat (codes " with " ∷ to ∷ codes ": it wants no answer" ∷ [])
+why_text to from event.Acknowledge = concat (codes " with " ∷ to ∷ codes ": it has come back already" ∷ [])
+why_text to from event.Recorded = concat (codes ": " ∷ from ∷ codes ", who sent it, isn't live" ∷ [])
+
+abbrev pub vanishes_line : Action → ℕ → Text → Text
+vanishes_line action ref why = concat (action_name action ∷ codes " " ∷ decimal ref ∷ codes " vanishes" ∷ why ∷ [])
+
+abbrev pub vanishes_text : Scene → MessageItem → Text
+vanishes_text x m = vanishes_line
+    m.action m.my_ref
+    (why_text (name_before x m.to x.marks.effect) (name_before x m.from x.marks.effect) m.code)
+
+abbrev pub all_vanish_line : ℕ → Text
+all_vanish_line n = decimal n ++ codes " messages vanish: nobody is there to take them"
+
+abbrev pub vanished_text : Scene → List Text
+vanished_text x = few_or_count (vanishes_text x) all_vanish_line (vanished x)
 
 abbrev pub bytes_line : ℕ → Text → ℕ → Text
 bytes_line n who buffer =
@@ -216,18 +286,16 @@ sent_text x (Some sent) =
     bytes_sent_text x sent.0 sent.0.body
     ++ sends_line (task_name x.desk sent.0.from) (action_of sent.0.body) sent.1 (task_name x.desk sent.0.to) ∷ []
 
--- the message that the task held, if it goes back; the one that it took, and the one that it sent
+-- the messages that go back, the one that the task took, those that vanished, and the one that it sent
 abbrev pub post_changes : Scene → List Text
-post_changes x =
-    map (returns_text x) (filter (λ (p : Parcel). p.message.my_ref == x.before.held && is_returned p.code) (waiting x))
-    ++ taken_text x x.marks.taken
-    ++ sent_text x x.marks.sent
+post_changes x = bounced_text x ++ taken_text x x.marks.taken ++ vanished_text x ++ sent_text x x.marks.sent
 
 -- ---- all of it
 abbrev pub changes : Scene → List Text
 changes x =
     effect_text x.marks.effect
     ++ page_changes x
+    ++ heap_text x x.marks.heap_effect
     ++ block_changes x (task_at x.before.handle x.desk)
     ++ slide_change (slides x)
     ++ post_changes x

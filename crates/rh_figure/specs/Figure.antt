@@ -120,6 +120,7 @@ abbrev pub manner_text : Manner → Text
 manner_text manner.Plain = []
 manner_text manner.Deaf = codes "deaf "
 manner_text manner.File = codes "file "
+manner_text manner.Raw = codes "raw "
 
 -- a slot by the manner and handle of its task, its buffer and pages, and whether it budges
 abbrev pub note_of_slot : Manner → ℕ → ℕ → ℕ → Bool → Text

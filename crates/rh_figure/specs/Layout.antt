@@ -1,7 +1,7 @@
 -- The pieces of an area: its bytes, one thing after the other. Read Scene first.
 -- Offsets count from the area's first byte. x is the scene, g the legend of a heap, p an offset or a piece, s a
 -- segment, h a heap or a handle, k an anchor, n a size.
-use Rattle.std.specs.Prelude.{◌≡◌, ℕ, ◌+◌, ◌-◌, ◌*◌, ◌==◌, ◌&&◌, ◌||◌, not, Bool, false, List, [], ◌∷◌, ◌++◌, length, take, drop, Option, Some, None}
+use Rattle.std.specs.Prelude.{◌≡◌, ℕ, ◌+◌, ◌-◌, ◌*◌, ◌==◌, ◌&&◌, ◌||◌, not, nat_le, nat_lt, Bool, false, List, [], ◌∷◌, ◌++◌, length, take, drop, Option, Some, None}
 use Rattle.std.specs.List.{list_any}
 use Rattle.rh_defs.specs.declared.question.BlockItem.{BlockItem}
 use Rattle.rh_defs.specs.declared.sizes.TheConstants.{C_HEAP_PLACE}
@@ -11,6 +11,8 @@ use Rattle.rh_defs.specs.Slot.{Slot, Flex, flex_weight, weight, slot_start, slot
 use Rattle.rh_defs.specs.Messages.{Parcel}
 use Rattle.rh_defs.specs.Desk.{module_start}
 use Rattle.rh_figure.specs.Scene.{Scene, message_of_scene}
+use Rattle.rh_figure.specs.declared.heap_effect.HeapEffect.{HeapEffect}
+use Rattle.rh_figure.specs.declared.heap_effect.HeapEffect.TheVariants.{Released, Resized}
 use Rattle.rh_figure.specs.declared.limits.TheConstants.{MOST_SEGMENTS}
 pub use Rattle.rh_figure.specs.declared.piece.Kind.{Kind}
 pub use Rattle.rh_figure.specs.declared.piece.Kind.TheVariants.{AnchorWords, Descriptor, Claimed, Posted, FreeHole, MoreSegments, FreeTop, FlexBlock, Unused}
@@ -23,11 +25,19 @@ Tile low high (p ∷ ps) = (p.at ≡ low) × Tile (low + p.size) high ps
 
 -- ---- heaps
 
--- what a used segment is, by the address of its block and its size, and whether it has changed
+-- What a used segment is, by the address of its block and its size, and whether it has changed; and whether a block was
+-- taken from among free bytes, by their address and how many they are.
 pub record Legend : Type 0 where
   pub start : ℕ
   pub kind_of : ℕ → ℕ → Kind
   pub is_fresh : ℕ → Bool
+  pub is_vacated : ℕ → ℕ → Bool
+
+-- whether the block that was released, or moved away, lay among n bytes at an address of a heap
+abbrev pub vacates : ℕ → ℕ → ℕ → HeapEffect → Bool
+vacates h a n (Released owner at) = owner == h && (nat_le a at && nat_lt at (a + n))
+vacates h a n (Resized owner from to) = owner == h && (nat_le a from && nat_lt from (a + n))
+vacates h a n _ = false
 
 abbrev pub segment_piece : Legend → ℕ → Segment → Piece
 segment_piece g p (Used bytes) = record {
@@ -36,7 +46,12 @@ segment_piece g p (Used bytes) = record {
   size = 4 + length bytes;
   fresh = g.is_fresh (g.start + p + 4);
 }
-segment_piece g p (Hole size) = record { kind = FreeHole; at = p; size = size; fresh = false }
+segment_piece g p (Hole size) = record {
+  kind = FreeHole;
+  at = p;
+  size = size;
+  fresh = g.is_vacated (g.start + p) size;
+}
 
 -- segments that lie from an offset on
 abbrev pub segment_pieces : Legend → ℕ → List Segment → List Piece
@@ -60,7 +75,12 @@ heap_pieces g at h =
     ∷ (
     segment_pieces g (at + first_place) (take MOST_SEGMENTS h.segments)
     ++ more_pieces (at + first_place + total size_of (take MOST_SEGMENTS h.segments)) (drop MOST_SEGMENTS h.segments)
-    ++ record { kind = FreeTop; at = at + base h; size = h.end - base h; fresh = false } ∷ []
+    ++ record {
+      kind = FreeTop;
+      at = at + base h;
+      size = h.end - base h;
+      fresh = g.is_vacated (g.start + (at + base h)) (h.end - base h);
+    } ∷ []
     )
 
 -- ---- slots
@@ -94,7 +114,12 @@ flex_pieces x h p (b ∷ blocks) =
     ∷ flex_pieces x h (p + weight b) blocks
 
 abbrev pub slot_legend : Scene → ℕ → Legend
-slot_legend x h = record { start = slot_start; kind_of = λ _ n. Claimed n; is_fresh = is_fresh_block x h }
+slot_legend x h = record {
+  start = slot_start;
+  kind_of = λ _ n. Claimed n;
+  is_fresh = is_fresh_block x h;
+  is_vacated = λ a n. vacates h a n x.marks.heap_effect;
+}
 
 -- anchor words, C heap, flex blocks, and what is unused of the last page
 abbrev pub slot_pieces : Scene → ℕ → Slot → List Piece
@@ -122,6 +147,7 @@ module_legend x = record {
   start = module_start;
   kind_of = λ address n. posted_or n (message_of_scene x (address - module_start));
   is_fresh = λ address. x.marks.module_block == address || is_new_message x (message_of_scene x (address - module_start));
+  is_vacated = λ a n. vacates 0 a n x.marks.heap_effect;
 }
 
 abbrev pub module_pieces : Scene → List Piece

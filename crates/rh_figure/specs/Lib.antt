@@ -2,6 +2,8 @@ pub mod Cards
 pub mod Changes
 pub mod Figure
 pub mod FigureLaws
+pub mod HeapChanges
+pub mod HeapSegments
 pub mod Inner
 pub mod Layout
 pub mod Map

@@ -1,6 +1,6 @@
 -- What a picture is drawn from: a desk after a command, and what is kept of the desk before it. Read Share first.
 -- d is a desk, c the command, t a task, h a handle, s a share of the pool, b what is kept, x the whole scene.
-use Rattle.std.specs.Prelude.{ℕ, ℤ, pos, negsuc, ◌==◌, nat_lt, ◌||◌, Bool, true, false, if◌then◌else◌, List, [], ◌∷◌, ◌++◌, filter, find, Option, Some, None}
+use Rattle.std.specs.Prelude.{ℕ, ℤ, pos, negsuc, ◌==◌, nat_lt, ◌||◌, Bool, true, false, if◌then◌else◌, List, [], ◌∷◌, ◌++◌, map, filter, find, Option, Some, None}
 use Rattle.std.specs.List.{flat_map}
 use Rattle.rh_defs.specs.declared.command.Command.{Command}
 use Rattle.rh_defs.specs.declared.command.Command.TheVariants as command
@@ -11,7 +11,8 @@ use Rattle.rh_defs.specs.declared.message.Action.{Action}
 use Rattle.rh_defs.specs.declared.message.Body.{Body}
 use Rattle.rh_defs.specs.declared.message.Body.TheVariants.{RamFetch, RamTransmit}
 use Rattle.rh_defs.specs.declared.message.Letter.{Letter}
-use Rattle.rh_defs.specs.Messages.{Parcel}
+use Rattle.rh_defs.specs.declared.message.MessageItem.{MessageItem}
+use Rattle.rh_defs.specs.Messages.{Parcel, action_of}
 use Rattle.rh_defs.specs.Post.{Seat, held_by}
 use Rattle.rh_defs.specs.Desk.{Desk, Task, has_name, task_at, free_pages, next_ref}
 use Rattle.rh_defs.specs.Questions.{block_items}
@@ -19,15 +20,50 @@ use Rattle.rh_defs.specs.Order.{is_to, with_queue}
 use Rattle.rh_defs.specs.Named.{name_in}
 use Rattle.rh_defs.specs.Commands.{is_refused}
 use Rattle.rh_figure.specs.Share.{Holding, Share, holdings}
+use Rattle.rh_figure.specs.HeapSegments.{segment_seen, found_size}
+use Rattle.rh_figure.specs.declared.heap_effect.HeapEffect.{HeapEffect}
+use Rattle.rh_figure.specs.declared.heap_effect.HeapEffect.TheVariants.{Nothing, Claimed, Released, Resized}
+
+-- ---- the messages of a desk
+
+-- a message that waits, or is held
+abbrev pub seen_item : Bool → Parcel → MessageItem
+seen_item held p = record {
+  block = p.block;
+  to = p.to;
+  from = p.message.from;
+  my_ref = p.message.my_ref;
+  action = action_of p.message.body;
+  code = p.code;
+  held = held;
+}
+
+abbrev pub held_list : Option Parcel → List Parcel
+held_list None = []
+held_list (Some p) = p ∷ []
+
+-- the messages that wait, task by task
+abbrev pub waiting_on : Desk → List Parcel
+waiting_on d = flat_map (λ (s : Seat). filter (is_to s.handle) d.post.queued) d.post.seats
+
+-- the messages that are held
+abbrev pub held_on : Desk → List Parcel
+held_on d = flat_map (λ (s : Seat). held_list s.holds) d.post.seats
+
+-- those that wait, and then those that are held
+abbrev pub message_items : Desk → List MessageItem
+message_items d = map (seen_item false) (waiting_on d) ++ map (seen_item true) (held_on d)
 
 -- ---- before the command
 
 -- The handle, blocks and held ref are those of the task that the command names; all are 0 or none where it names no
--- live one.
+-- live one. The size is that of the heap's block that the command names, 0 where it names none. The messages are all.
 pub record Before : Type 0 where
   pub handle : ℕ
   pub blocks : List BlockItem
   pub held : ℕ
+  pub size : ℕ
+  pub messages : List MessageItem
   pub holdings : List Holding
   pub free : ℕ
   pub next_ref : ℕ
@@ -46,27 +82,44 @@ abbrev pub ref_of : Option Parcel → ℕ
 ref_of None = 0
 ref_of (Some p) = p.message.my_ref
 
-abbrev pub before_task : Desk → Option Task → Before
-before_task d None = record {
+abbrev pub before_task : ℕ → Desk → Option Task → Before
+before_task n d None = record {
   handle = 0;
   blocks = [];
   held = 0;
+  size = n;
+  messages = message_items d;
   holdings = holdings d;
   free = free_pages d;
   next_ref = next_ref d;
 }
-before_task d (Some t) = record {
+before_task n d (Some t) = record {
   handle = t.handle;
   blocks = block_items t.slot;
   held = ref_of (held_by t.handle d.post.seats);
+  size = n;
+  messages = message_items d;
   holdings = holdings d;
   free = free_pages d;
   next_ref = next_ref d;
 }
 
+-- the handle of a task that may be there, else 0
+abbrev pub handle_of : Option Task → ℕ
+handle_of None = 0
+handle_of (Some t) = t.handle
+
+-- the size of the heap's block that a command names, 0 where it names none
+abbrev pub size_named : ℕ → Option Command → Desk → ℕ
+size_named h (Some (command.Release name a)) d = found_size (segment_seen h a d)
+size_named h (Some (command.Resize name a delta)) d = found_size (segment_seen h a d)
+size_named h (Some (command.RmaFree a)) d = found_size (segment_seen 0 a d)
+size_named h (Some (command.RmaResize a delta)) d = found_size (segment_seen 0 a d)
+size_named h _ d = 0
+
 -- what is kept of a desk before a command, or before a bad line
 abbrev pub before_of : Desk → Option Command → Before
-before_of d c = before_task d (task_in c d)
+before_of d c = before_task (size_named (handle_of (task_in c d)) c d) d (task_in c d)
 
 -- ---- what the command did
 
@@ -85,12 +138,13 @@ pub data Effect : Type 0 where
   GivenUp : List ℕ → Effect
   Written : ℕ → ℕ → List ℕ → Effect
 
--- The task that it names, its effect, the anchor of the block that it wrote to, the task and address of a block of a C
--- heap, the address of a block of the module area, the letter that was sent with its ref, and the ref and action of the
--- message that was taken.
+-- The task that it names, its effect, what became of a heap's block, the anchor of the block that it wrote to, the task
+-- and address of a block of a C heap, the address of a block of the module area, the letter that was sent with its ref,
+-- and the ref and action of the message that was taken.
 pub record Marks : Type 0 where
   pub handle : ℕ
   pub effect : Effect
+  pub heap_effect : HeapEffect
   pub put : Option ℕ
   pub heap : ℕ × ℕ
   pub module_block : ℕ
@@ -98,7 +152,16 @@ pub record Marks : Type 0 where
   pub taken : Option (ℕ × Action)
 
 abbrev pub no_marks : Marks
-no_marks = record { handle = 0; effect = NoEffect; put = None; heap = (0, 0); module_block = 0; sent = None; taken = None }
+no_marks = record {
+  handle = 0;
+  effect = NoEffect;
+  heap_effect = Nothing;
+  put = None;
+  heap = (0, 0);
+  module_block = 0;
+  sent = None;
+  taken = None;
+}
 
 -- whether a command asks, and changes nothing
 abbrev pub is_question : Command → Bool
@@ -160,6 +223,16 @@ effect_of (command.CancelOut name id) r = GivenUp name
 effect_of (command.Put name k offset bytes) r = Written k offset bytes
 effect_of _ _ = NoEffect
 
+-- what became of a heap's block, by the handle of the task that the command names
+abbrev pub heap_effect_of : ℕ → Command → Reply → HeapEffect
+heap_effect_of h (command.Claim name n) (reply.Block a) = Claimed h a
+heap_effect_of h (command.Release name a) r = Released h a
+heap_effect_of h (command.Resize name a delta) (reply.Block b) = Resized h a b
+heap_effect_of h (command.RmaClaim n) (reply.Block a) = Claimed 0 a
+heap_effect_of h (command.RmaFree a) r = Released 0 a
+heap_effect_of h (command.RmaResize a delta) (reply.Block b) = Resized 0 a b
+heap_effect_of h _ _ = Nothing
+
 abbrev pub taken_mark : Reply → Option (ℕ × Action)
 taken_mark (reply.Event code action mine yours outcome) = Some (mine, action)
 taken_mark _ = None
@@ -168,6 +241,7 @@ abbrev pub marks_for : Desk → Before → Command → Reply → Marks
 marks_for d b c r = record {
   handle = b.handle;
   effect = effect_of c r;
+  heap_effect = heap_effect_of b.handle c r;
   put = put_mark c;
   heap = buffer_of (sent_by b (task_at b.handle d)) (heap_mark b.handle c r);
   module_block = module_mark c r;
@@ -203,10 +277,6 @@ scene_of d s b m = record {
 -- all messages that wait, task by task
 abbrev pub waiting : Scene → List Parcel
 waiting x = flat_map (λ (s : Seat). x.waits s.handle) x.desk.post.seats
-
-abbrev pub held_list : Option Parcel → List Parcel
-held_list None = []
-held_list (Some p) = p ∷ []
 
 -- all messages that wait or are held
 abbrev pub live : Scene → List Parcel

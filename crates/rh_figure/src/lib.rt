@@ -2,9 +2,11 @@
 //! the laws of both.
 #![tactic(auto)]
 
+mod heap_effect;
 mod laws;
 pub mod limits;
 mod piece;
 
+pub use heap_effect::HeapEffect;
 pub use laws::{columns_law, map_order_law, still_law, tiles_law};
 pub use piece::{Kind, Piece};

@@ -34,6 +34,9 @@ pub const MOST_LISTED: usize = 12;
 /// A sentence shows so many bytes at most that were written, as a text.
 pub const MOST_TOLD: usize = 24;
 
+/// So many messages that bounce or vanish at a command are told one by one; of more their number.
+pub const MOST_FATES: usize = 3;
+
 /// A card shows so many bytes of a block.
 pub const CARD_BYTES: usize = 7;
 

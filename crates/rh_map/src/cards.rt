@@ -99,12 +99,13 @@ fn block_word(usage: Usage) -> &'static [u8]
 }
 
 /// Writes the card of a hole.
-pub fn print_hole_card<P: Pen>(address: u32, size: u32, pen: &mut P)
-    ensures { P.offered pen.new ≡ P.offered pen.old ++ (shown_line (card_line (hole_card address size)) ++ codes "\n") }
+pub fn print_hole_card<P: Pen>(address: u32, size: u32, fresh: bool, pen: &mut P)
+    ensures { P.offered pen.new ≡ P.offered pen.old
+        ++ (shown_line (card_line (hole_card address size fresh)) ++ codes "\n") }
 {
     let mut bytes = Row::new();
     add_size(&mut bytes, size);
-    print_card(&hole_name(address), &bytes, &Row::new(), false, pen);
+    print_card(&hole_name(address), &bytes, &Row::new(), fresh, pen);
 }
 
 /// A hole's address.

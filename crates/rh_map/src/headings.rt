@@ -140,5 +140,6 @@ fn manner_text(manner: Manner) -> &'static [u8]
         Manner::Plain => b"",
         Manner::Deaf => b"deaf ",
         Manner::File => b"file ",
+        Manner::Raw => b"raw ",
     }
 }

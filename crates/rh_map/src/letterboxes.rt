@@ -11,7 +11,7 @@ ghost use Rattle.rh_map.specs.Inner.Filled.{Fills};
 ghost use Rattle.rh_defs.specs.Post.{most_messages};
 
 use crate::line::put_line;
-use crate::messages::action_name;
+use crate::messages::add_action;
 use crate::numbers::add_more;
 use rh_defs::{Action, EventCode, Name, Ref};
 use rh_figure::limits::MAP_COLUMNS;
@@ -138,7 +138,7 @@ pub fn add_entry(row: &mut Row, entry: MessageEntry)
 {
     row.decimal(entry.my_ref.0);
     row.byte(b' ');
-    row.text(action_name(entry.action));
+    add_action(row, entry.action);
     add_back(row, entry.code);
 }
 

@@ -9,6 +9,7 @@ mod changes;
 mod effects;
 mod front;
 mod headings;
+mod heap_changes;
 mod letterboxes;
 mod line;
 mod messages;
@@ -24,47 +25,106 @@ mod text;
 mod transfers;
 mod who;
 
-pub use areas::{
-    ScrapLine, add_area_name, fixed_area_note, made_area_note, print_fixed_area, print_made_area,
-};
-pub use block_changes::{
-    block_gone, block_new, block_resized, blocks_slide, print_block_gone, print_block_new,
-    print_block_resized, print_slide,
-};
-pub use cards::{
-    CardBlock, Usage, block_bytes, block_size, flex_name, hole_name, others_name, print_flex_card,
-    print_hole_card, print_more_card, print_used_card, used_name,
-};
+pub use areas::ScrapLine;
+pub use areas::add_area_name;
+pub use areas::fixed_area_note;
+pub use areas::made_area_note;
+pub use areas::print_fixed_area;
+pub use areas::print_made_area;
+pub use block_changes::block_gone;
+pub use block_changes::block_new;
+pub use block_changes::block_resized;
+pub use block_changes::blocks_slide;
+pub use block_changes::print_block_gone;
+pub use block_changes::print_block_new;
+pub use block_changes::print_block_resized;
+pub use block_changes::print_slide;
+pub use cards::CardBlock;
+pub use cards::Usage;
+pub use cards::block_bytes;
+pub use cards::block_size;
+pub use cards::flex_name;
+pub use cards::hole_name;
+pub use cards::others_name;
+pub use cards::print_flex_card;
+pub use cards::print_hole_card;
+pub use cards::print_more_card;
+pub use cards::print_used_card;
+pub use cards::used_name;
 pub use cells::cell_mark;
-pub use changes::{
-    add_slot_name, area_takes, freed, print_area_takes, print_change, print_freed,
-    print_slot_takes, slot_takes,
-};
-pub use effects::{
-    area_has_fewer, area_has_more, area_made, area_removed, budging_set, bytes_written, task_begun,
-    task_ended, transfer_given_up,
-};
+pub use changes::add_slot_name;
+pub use changes::area_takes;
+pub use changes::freed;
+pub use changes::print_area_takes;
+pub use changes::print_change;
+pub use changes::print_freed;
+pub use changes::print_slot_takes;
+pub use changes::slot_takes;
+pub use effects::area_has_fewer;
+pub use effects::area_has_more;
+pub use effects::area_made;
+pub use effects::area_removed;
+pub use effects::budging_set;
+pub use effects::bytes_written;
+pub use effects::task_begun;
+pub use effects::task_ended;
+pub use effects::transfer_given_up;
 pub use front::Front;
-pub use headings::{
-    SlotHeading, add_slot_note, area_mark, print_module_heading, print_pool_heading,
-    print_slot_heading, slot_mark,
-};
-pub use letterboxes::{MessageEntry, add_entry, print_letterbox};
-pub use line::{put_line, shown_byte};
-pub use messages::{
-    CardMessage, ChainPlace, action_name, message_name, message_place, message_way,
-    print_message_card,
-};
-pub use numbers::{add_more, add_numbers};
-pub use phrases::{add_pages, add_size};
+pub use headings::SlotHeading;
+pub use headings::add_slot_note;
+pub use headings::area_mark;
+pub use headings::print_module_heading;
+pub use headings::print_pool_heading;
+pub use headings::print_slot_heading;
+pub use headings::slot_mark;
+pub use heap_changes::heap_block_claimed;
+pub use heap_changes::heap_block_moved;
+pub use heap_changes::heap_block_released;
+pub use heap_changes::heap_block_resized;
+pub use heap_changes::hole_left;
+pub use heap_changes::top_left;
+pub use letterboxes::MessageEntry;
+pub use letterboxes::add_entry;
+pub use letterboxes::print_letterbox;
+pub use line::put_line;
+pub use line::shown_byte;
+pub use messages::CardMessage;
+pub use messages::ChainPlace;
+pub use messages::add_action;
+pub use messages::message_name;
+pub use messages::message_place;
+pub use messages::message_way;
+pub use messages::print_message_card;
+pub use numbers::add_more;
+pub use numbers::add_numbers;
+pub use phrases::add_pages;
+pub use phrases::add_size;
 pub use pool::print_pool;
-pub use post_changes::{
-    bytes_sent, message_returns, print_bytes_sent, print_returns, print_sends, print_takes,
-    task_sends, task_takes,
-};
-pub use reply::{next_line, print_reply_lines};
-pub use rows::{AreaBytes, print_area};
-pub use script_lines::{has_words, is_mark, print_remark};
-pub use steps::{add_cut, print_more_lines, print_reply_line, print_step_line, print_still};
-pub use transfers::{Side, print_transfer, state_name};
-pub use who::{Who, add_who};
+pub use post_changes::bytes_sent;
+pub use post_changes::message_returns;
+pub use post_changes::message_vanishes;
+pub use post_changes::messages_return;
+pub use post_changes::messages_vanish;
+pub use post_changes::print_bytes_sent;
+pub use post_changes::print_returns;
+pub use post_changes::print_sends;
+pub use post_changes::print_takes;
+pub use post_changes::task_sends;
+pub use post_changes::task_takes;
+pub use reply::next_line;
+pub use reply::print_reply_lines;
+pub use rows::AreaBytes;
+pub use rows::print_area;
+pub use script_lines::has_words;
+pub use script_lines::is_mark;
+pub use script_lines::print_remark;
+pub use steps::add_cut;
+pub use steps::print_more_lines;
+pub use steps::print_reply_line;
+pub use steps::print_step_line;
+pub use steps::print_still;
+pub use transfers::Side;
+pub use transfers::print_transfer;
+pub use transfers::state_name;
+pub use who::Who;
+pub use who::add_who;

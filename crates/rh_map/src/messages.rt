@@ -59,7 +59,7 @@ pub fn message_name(my_ref: Ref, action: Action) -> Row
     let mut name = Row::new();
     name.decimal(my_ref.0);
     name.byte(b' ');
-    name.text(action_name(action));
+    add_action(&mut name, action);
     name
 }
 
@@ -122,17 +122,19 @@ fn add_place(row: &mut Row, place: ChainPlace)
     }
 }
 
-/// The name of what a message is about.
-pub fn action_name(action: Action) -> &'static [u8]
-    ensures value { result.now ≡ action_name_of action }
-    ensures short { length result.now ≤ 11 }
+/// Adds the name of what a message is about, or its action's number where it has none.
+pub fn add_action(row: &mut Row, action: Action)
+    requires { length row.old + 11 ≤ ROW }
+    ensures value { row.new ≡ row.old ++ action_name_of action }
+    ensures few { length row.new ≤ length row.old + 11 }
 {
     match action {
-        Action::DataSave => b"DataSave",
-        Action::DataSaveAck => b"DataSaveAck",
-        Action::DataLoad => b"DataLoad",
-        Action::DataLoadAck => b"DataLoadAck",
-        Action::RamFetch => b"RAMFetch",
-        Action::RamTransmit => b"RAMTransmit",
+        Action::DataSave => row.text(b"DataSave"),
+        Action::DataSaveAck => row.text(b"DataSaveAck"),
+        Action::DataLoad => row.text(b"DataLoad"),
+        Action::DataLoadAck => row.text(b"DataLoadAck"),
+        Action::RamFetch => row.text(b"RAMFetch"),
+        Action::RamTransmit => row.text(b"RAMTransmit"),
+        Action::Other(number) => row.decimal(number),
     }
 }

@@ -4,16 +4,17 @@ ghost use Rattle.std.specs.Prelude.{◌≡◌, ◌≤◌, ◌+◌, [], ◌∷◌
 ghost use Rattle.std.specs.List.{concat};
 ghost use Rattle.std.specs.Fmt.{decimal};
 ghost use Rattle.rh_defs.specs.Text.{action_name as action_name_of};
-ghost use Rattle.rh_figure.specs.Changes.{bytes_line, returns_line, sends_line, takes_line};
+ghost use Rattle.rh_figure.specs.Changes.{all_return_line, all_vanish_line, bytes_line, returns_line, sends_line};
+ghost use Rattle.rh_figure.specs.Changes.{takes_line, vanishes_line, why_text};
 ghost use Rattle.rh_figure.specs.Map.{shown_line};
 ghost use Rattle.rh_lines.specs.declared.row.TheConstants.{ROW};
 ghost use Rattle.rh_map.specs.MapTasks.{who_text};
 
 use crate::changes::print_change;
-use crate::messages::action_name;
+use crate::messages::add_action;
 use crate::phrases::add_size;
 use crate::who::{Who, add_who};
-use rh_defs::{Action, Ref};
+use rh_defs::{Action, EventCode, Ref};
 use rh_lines::{Pen, Row};
 
 /// Writes that a message goes back to a task.
@@ -31,8 +32,74 @@ pub fn message_returns(action: Action, my_ref: Ref, to: &Who<'_>) -> Row
 {
     let mut row = Row::new();
     add_message(&mut row, action, my_ref);
-    row.text(b" goes back to ");
+    row.text(b" bounces: it goes back to ");
     add_who(&mut row, to);
+    row.text(b" with code 19");
+    row
+}
+
+/// That so many messages go back to those who sent them.
+pub fn messages_return(count: u32) -> Row
+    ensures value { result ≡ all_return_line count }
+    ensures few { length result ≤ 200 }
+{
+    let mut row = Row::new();
+    row.decimal(count);
+    row.text(b" messages bounce: they go back to those who sent them with code 19");
+    row
+}
+
+/// That a message vanishes, which has an event code and was for the one task, and sent by the other.
+pub fn message_vanishes(
+    action: Action,
+    my_ref: Ref,
+    code: EventCode,
+    to: &Who<'_>,
+    from: &Who<'_>,
+) -> Row
+    ensures value { result ≡ vanishes_line action my_ref (why_text (who_text to.now) (who_text from.now) code) }
+    ensures few { length result ≤ 200 }
+{
+    let mut row = Row::new();
+    add_message(&mut row, action, my_ref);
+    row.text(b" vanishes");
+    add_why(&mut row, code, to, from);
+    row
+}
+
+/// Adds why a message vanishes.
+fn add_why(row: &mut Row, code: EventCode, to: &Who<'_>, from: &Who<'_>)
+    requires { length row.old + 60 ≤ ROW }
+    ensures value { row.new ≡ row.old ++ why_text (who_text to.now) (who_text from.now) code }
+    ensures few { length row.new ≤ length row.old + 60 }
+{
+    match code {
+        EventCode::User => add_about(row, b" with ", to, b": it wants no answer"),
+        EventCode::Acknowledge => add_about(row, b" with ", to, b": it has come back already"),
+        EventCode::Recorded => add_about(row, b": ", from, b", who sent it, isn't live"),
+    }
+}
+
+/// Adds a task between two texts.
+fn add_about(row: &mut Row, before: &[u8], who: &Who<'_>, behind: &[u8])
+    requires room { length row.old + 60 ≤ ROW }
+    requires few { length before.now + length behind.now ≤ 43 }
+    ensures value { row.new ≡ row.old ++ concat (before.now ∷ who_text who.now ∷ behind.now ∷ []) }
+    ensures few { length row.new ≤ length row.old + 60 }
+{
+    row.text(before);
+    add_who(row, who);
+    row.text(behind);
+}
+
+/// That so many messages vanish.
+pub fn messages_vanish(count: u32) -> Row
+    ensures value { result ≡ all_vanish_line count }
+    ensures few { length result ≤ 200 }
+{
+    let mut row = Row::new();
+    row.decimal(count);
+    row.text(b" messages vanish: nobody is there to take them");
     row
 }
 
@@ -106,7 +173,7 @@ fn add_message(row: &mut Row, action: Action, my_ref: Ref)
     ensures value { row.new ≡ row.old ++ concat (action_name_of action ∷ codes " " ∷ decimal my_ref ∷ []) }
     ensures few { length row.new ≤ length row.old + 23 }
 {
-    row.text(action_name(action));
+    add_action(row, action);
     row.byte(b' ');
     row.decimal(my_ref.0);
 }

@@ -1,7 +1,7 @@
 -- Answers as they are kept: how many lines each has, and what the first 4,096 bytes show of them.
 use Rattle.rh_pictures.proofs.Common.{◌≡◌, ℕ, zero, suc, ◌+◌, ◌*◌, ◌/◌, ◌%◌, ◌<◌, ◌≤◌, ◌⊎◌, inl, inr, Bool, true, false, eqb, refl, ap, ap₂, sym, subst, ◌∙◌}
 use Rattle.rh_pictures.proofs.Common.{arith, rules, List, [], ◌∷◌, ◌++◌, append-nil, append_assoc, length, take, map, Option, Some, None, Ok, Err, codes, find}
-use Rattle.rh_pictures.proofs.Common.{if◌then◌else◌, max, nat_le, slice_get, slice_index, ◌==◌, decimal, AllByRecursion, enumerate_from, flat_map}
+use Rattle.rh_pictures.proofs.Common.{if◌then◌else◌, max, nat_le, not, slice_get, slice_index, ◌==◌, decimal, AllByRecursion, enumerate_from, flat_map}
 use Rattle.rh_pictures.proofs.Common.{flat_map-append, length-append, BlockItem, Desk, Made, Task, task_pages, block_items, in_item, out_item, asked, ended}
 use Rattle.rh_pictures.proofs.Common.{unended, answer_text, first_line, cut, Excerpts, heap_seen, option_map}
 use Rattle.std.specs.Fmt.{digit_glyph, digits, digits_onto}
@@ -18,14 +18,15 @@ use Rattle.rh_defs.specs.declared.question.State.TheVariants as state
 use Rattle.rh_defs.specs.declared.question.Question.{Question}
 use Rattle.rh_defs.specs.declared.question.Question.TheVariants as question
 use Rattle.rh_defs.specs.declared.refusal.Refusal.{Refusal}
-use Rattle.rh_defs.specs.declared.refusal.Refusal.TheVariants.{NoName}
+use Rattle.rh_defs.specs.declared.refusal.Refusal.TheVariants.{BadRange, NoName}
 use Rattle.rh_defs.specs.declared.reply.Reply.TheVariants as reply
-use Rattle.rh_defs.specs.Chain.{Granted, found_or, ◌>>=◌}
+use Rattle.rh_defs.specs.Chain.{Granted, found_or, refuse_if, ◌>>=◌, ◌>>◌}
 use Rattle.rh_defs.specs.Desk.{has_name, named}
 use Rattle.rh_defs.specs.Questions.{Areas, Blocks, Bytes, Listed, Records, Segments, area_item, area_items, segment_items, Told, areas, blocks, heap}
-use Rattle.rh_defs.specs.Questions.{show, status}
+use Rattle.rh_defs.specs.Questions.{read, show, status}
 use Rattle.rh_defs.specs.Script.{onto_line, unended_after}
-use Rattle.rh_defs.specs.Slot.{slot_block}
+use Rattle.rh_defs.specs.Places.{bytes_held}
+use Rattle.rh_defs.specs.Slot.{holds, slot_block}
 use Rattle.rh_defs.specs.Text.{Words, address, area_line, block_line, hex_words, later, later_lines, line, record_line, record_lines, rest_of_line}
 use Rattle.rh_defs.specs.Text.{segment_line, state_name}
 use Rattle.rh_session.proofs.LineLemmas.{NoFeed, bool_cases, ended-unended, ended_first, no_feed_open, unended-append, unended_first}
@@ -536,6 +537,20 @@ module _ (d : Desk) (is : IsDesk d) (small : AreSmall d.tasks) where
     few = omega arith;
   }
 
+  -- the same behind a step of which the refusal alone counts
+  one-behind : {A : Type 0} (g : Granted A) (next : Granted Told) → OneLine (answer_text next) → OneLine (answer_text (g >> next))
+  unfolding ◌>>◌ ◌>>=◌
+  one-behind (Ok x) next one = one
+  one-behind (Err refusal) next one = refused-one refusal
+
+  read-few : (name : List ℕ) (x n : ℕ) → FewLines (answer_text (read d name x n))
+  unfolding read
+  read-few name x n = record {
+    count = 1;
+    counted = inl (refl, one-of (named name d) _ (λ t. one-behind (refuse_if (not (holds x n t.slot)) BadRange) _ (shown-one n (bytes_held x n t.slot))));
+    few = omega arith;
+  }
+
   blocks-few : (name : List ℕ) → FewLines (answer_text (blocks d name))
   unfolding blocks later_lines
   blocks-few name = told-of name _ λ i t at.
@@ -579,6 +594,7 @@ module _ (d : Desk) (is : IsDesk d) (small : AreSmall d.tasks) where
   -- each answer has few lines
   pub answer-few : (q : Question) → FewLines (answer_text (asked d q))
   answer-few (question.Show name k) = show-few name k
+  answer-few (question.Read name x n) = read-few name x n
   answer-few (question.Blocks name) = blocks-few name
   answer-few (question.Heap name) = heap-few name
   answer-few (question.Status name) = status-few name

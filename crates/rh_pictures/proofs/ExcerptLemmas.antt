@@ -10,7 +10,7 @@ use Rattle.rh_defs.specs.declared.message.Action.TheVariants as action
 use Rattle.rh_defs.specs.declared.refusal.Refusal.{Refusal}
 use Rattle.rh_defs.specs.declared.refusal.Refusal.TheVariants.{NameInUse, NoName, TooManyTasks, NoHandles, NoFile, NoBlock, AnchorInUse, NotABlock, NotYours}
 use Rattle.rh_defs.specs.declared.refusal.Refusal.TheVariants.{Busy, NotOpen, NothingSent, BadRange, BadSize, ExcessiveShrink, NoTask, NoRefs, QueueFull}
-use Rattle.rh_defs.specs.declared.refusal.Refusal.TheVariants.{NoBudge, NoRoom, NoArea, TooManyAreas, NoNumbers, TooBig}
+use Rattle.rh_defs.specs.declared.refusal.Refusal.TheVariants.{NoBudge, NoRoom, NoArea, TooManyAreas, NoNumbers, TooBig, WrongManner, BadRef}
 use Rattle.rh_defs.specs.declared.reply.Outcome.{Outcome}
 use Rattle.rh_defs.specs.declared.reply.Outcome.TheVariants as outcome
 use Rattle.rh_defs.specs.declared.reply.Reply.TheVariants as reply
@@ -81,6 +81,8 @@ refusal-open NoArea = no_feed_open (codes "NoArea") refl
 refusal-open TooManyAreas = no_feed_open (codes "TooManyAreas") refl
 refusal-open NoNumbers = no_feed_open (codes "NoNumbers") refl
 refusal-open TooBig = no_feed_open (codes "TooBig") refl
+refusal-open WrongManner = no_feed_open (codes "WrongManner") refl
+refusal-open BadRef = no_feed_open (codes "BadRef") refl
 
 action-open : (a : Action) → NoFeed (action_name a)
 action-open action.DataSave = no_feed_open (codes "DataSave") refl
@@ -89,6 +91,7 @@ action-open action.DataLoad = no_feed_open (codes "DataLoad") refl
 action-open action.DataLoadAck = no_feed_open (codes "DataLoadAck") refl
 action-open action.RamFetch = no_feed_open (codes "RAMFetch") refl
 action-open action.RamTransmit = no_feed_open (codes "RAMTransmit") refl
+action-open (action.Other number) = decimal-open number
 
 switch-open : (on : Bool) → NoFeed (on_or_off on)
 switch-open true = no_feed_open (codes "on") refl
@@ -115,6 +118,7 @@ outcome-open (outcome.Loaded count) = (no_feed_open (codes "loaded") refl, (deci
 outcome-open (outcome.LoadedFailed count refusal) =
     (no_feed_open (codes "loaded") refl, (decimal-open count, (no_feed_open (codes "failed") refl, (refusal-open refusal, tt))))
 outcome-open outcome.Done = (no_feed_open (codes "done") refl, tt)
+outcome-open outcome.Taken = (no_feed_open (codes "taken") refl, tt)
 
 -- ---- texts of one line
 
@@ -154,6 +158,7 @@ first-one (reply.Started handle) = ok-one (decimal handle ∷ []) (decimal-open 
 first-one (reply.Block place) = ok-one (address place ∷ []) (address-open place, tt)
 first-one (reply.WasBudging on) = ok-one (on_or_off on ∷ []) (switch-open on, tt)
 first-one (reply.Sent ref) = ok-one (decimal ref ∷ []) (decimal-open ref, tt)
+first-one (reply.Answering ref) = ok-one (decimal ref ∷ []) (decimal-open ref, tt)
 first-one (reply.Moved bytes) = ok-one (decimal bytes ∷ []) (decimal-open bytes, tt)
 first-one (reply.Made number) = ok-one (decimal number ∷ []) (decimal-open number, tt)
 first-one (reply.Answered numbers) = ok-one (map decimal (each_of numbers) ++ []) (numbers-open (each_of numbers))

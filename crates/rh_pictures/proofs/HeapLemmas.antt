@@ -14,8 +14,9 @@ use Rattle.rh_defs.specs.Order.{is_to}
 use Rattle.rh_defs.specs.Pieces.{total}
 use Rattle.rh_defs.specs.Post.{Seat, has_seat, holds_such, post_is_message}
 use Rattle.rh_defs.specs.Records.{is_buffer_of}
-use Rattle.rh_figure.specs.Cards.{cards_from, in_use_text, post_card, post_or_used_card, used_card}
-use Rattle.rh_figure.specs.Layout.{is_fresh_block}
+use Rattle.rh_figure.specs.Cards.{cards_from, hole_card, in_use_text, post_card, post_or_used_card, used_card}
+use Rattle.rh_figure.specs.Layout.{is_fresh_block, vacates}
+use Rattle.rh_scene.specs.Seen.{handle_for}
 use Rattle.rh_figure.specs.Scene.{held_list}
 use Rattle.rh_scene.specs.declared.sight.HeapOf.{HeapOf}
 use Rattle.rh_scene.specs.declared.sight.HeapOf.TheVariants as heap_of
@@ -217,8 +218,10 @@ fresh-used : (x : Scene) (d : Desk) (b : Band) (o : HeapOf) (p : ℕ) (bytes : L
 fresh-used x d b (heap_of.Task i) p bytes r = ap (λ h. is_fresh_block x h (p + 4)) r.2 ∙ sym (ap (λ o. (card_of_task x o p (Used bytes)).fresh) r.1)
 fresh-used x d b heap_of.Module p bytes r = posted-fresh x (p + 4) bytes (message_of_scene x (p + 4 - 25165824))
 
-fresh-hole : (x : Scene) (d : Desk) (b : Band) (o : HeapOf) (p n : ℕ) → IsBandFor d b o → false ≡ (card_for x d o p (Hole n)).fresh
-fresh-hole x d b (heap_of.Task i) p n r = sym (ap (λ o. (card_of_task x o p (Hole n)).fresh) r.1)
+pub fresh-hole : (x : Scene) (d : Desk) (b : Band) (o : HeapOf) (p n : ℕ) → IsBandFor d b o
+    → vacates (handle_for o b.handle) p n x.marks.heap_effect ≡ (card_for x d o p (Hole n)).fresh
+fresh-hole x d b (heap_of.Task i) p n r =
+    ap (λ h. vacates h p n x.marks.heap_effect) r.2 ∙ sym (ap (λ o. (card_of_task x o p (Hole n)).fresh) r.1)
 fresh-hole x d b heap_of.Module p n r = refl
 
 band-fresh : (x : Scene) (d : Desk) (b : Band) (p : ℕ) (s : Segment) → IsBandOf d b → is_fresh_card x b (segment_item p s) ≡ (band_card x d b p s).fresh
@@ -337,6 +340,22 @@ told-here start h items k e f low =
 pub record HoleHere (p a n : ℕ) (s : Segment) : Type 0 where
   pub is : s ≡ Hole n
   pub at : p ≡ a
+
+pub hole-here : (p a n : ℕ) (s : Segment) → segment_item p s ≡ segment.Hole a n → HoleHere p a n s
+hole-here p a n (Used bytes) e = absurd (cc)
+hole-here p a n (Hole m) e = let size : m ≡ n = cc in let at : p ≡ a = cc in record { is = ap Hole size; at = at }
+
+hole-for : (x : Scene) (d : Desk) (b : Band) (o : HeapOf) (p n : ℕ) → IsBandFor d b o
+    → hole_card p n (vacates (handle_for o b.handle) p n x.marks.heap_effect) ≡ card_for x d o p (Hole n)
+hole-for x d b (heap_of.Task i) p n r =
+    ap (λ h. hole_card p n (vacates h p n x.marks.heap_effect)) r.2 ∙ sym (ap (λ o. card_of_task x o p (Hole n)) r.1)
+hole-for x d b heap_of.Module p n r = refl
+
+pub hole-card : (x : Scene) (d : Desk) (b : Band) (p a n : ℕ) (s : Segment) → IsBandOf d b → HoleHere p a n s
+    → hole_card a n (vacates (handle_for b.heap b.handle) a n x.marks.heap_effect) ≡ band_card x d b p s
+hole-card x d b p a n s r q =
+    ap (λ z. hole_card z n (vacates (handle_for b.heap b.handle) z n x.marks.heap_effect)) (sym q.at)
+    ∙ (hole-for x d b b.heap p n r ∙ ap (band_card x d b p) (sym q.is))
 
 pub record UsedHere (p a n : ℕ) (s : Segment) : Type 0 where
   pub bytes : List ℕ

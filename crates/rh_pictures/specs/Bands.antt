@@ -1,5 +1,5 @@
 -- The cards of a heap: a task's C heap, or that of the module area.
-use Rattle.std.specs.Prelude.{◌≡◌, ℕ, ◌+◌, List, [], slice_get, Option, Some, None}
+use Rattle.std.specs.Prelude.{◌≡◌, ℕ, ◌+◌, false, List, [], slice_get, Option, Some, None}
 use Rattle.rh_defs.specs.Heap.{Segment, Heap, first_place}
 use Rattle.rh_defs.specs.Desk.{Desk, Task}
 use Rattle.rh_figure.specs.Scene.{Scene}
@@ -20,7 +20,7 @@ IsBandOf d b = IsBandFor d b b.heap
 
 -- the card of a segment of a task's heap at an address, a hole's where the task isn't there
 abbrev pub card_of_task : Scene → Option Task → ℕ → Segment → Card
-card_of_task x None address segment = hole_card address 0
+card_of_task x None address segment = hole_card address 0 false
 card_of_task x (Some t) address segment = heap_card x t address segment
 
 -- the card of a segment of a task's heap, or of the module area's, at an address

@@ -109,10 +109,10 @@ pub trait CardArtist {
             ) };
 
     /// Shows the card of a hole.
-    fn hole_card<P: Pen>(&self, at: u32, address: u32, size: u32, pen: &mut P)
+    fn hole_card<P: Pen>(&self, at: u32, address: u32, size: u32, fresh: bool, pen: &mut P)
         requires few { at < MOST_CARDS }
         requires room { has_room self.now }
-        ensures { P.offered pen.new ≡ P.offered pen.old ++ card_text self.now (at, hole_card address size) };
+        ensures { P.offered pen.new ≡ P.offered pen.old ++ card_text self.now (at, hole_card address size fresh) };
 
     /// Shows the card of a message.
     fn message_card<P: Pen>(&self, at: u32, message: &CardMessage<'_>, pen: &mut P)

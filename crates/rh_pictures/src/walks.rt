@@ -7,6 +7,7 @@ pub mod changes;
 pub mod effect_changes;
 pub mod flex_cards;
 pub mod heap_cards;
+pub mod heap_changes;
 pub mod letters;
 pub mod page_changes;
 pub mod post_changes;

@@ -3,6 +3,7 @@ pub mod Chains
 pub mod Holders
 pub mod SegmentWalks
 pub mod Heaps
+pub mod SegmentFinds
 pub mod PieceWalks
 pub mod Posts
 pub mod SlotPieces

@@ -1,5 +1,5 @@
 -- The pieces of segments and of flex blocks, some at a time.
-use Rattle.rh_scene.proofs.Common.{◌≡◌, ℕ, zero, suc, ◌+◌, ◌-◌, ◌*◌, ◌<◌, ◌≤◌, Bool, false, refl, ap, sym, subst, ◌∙◌, arith, List, [], ◌∷◌, ◌++◌, length}
+use Rattle.rh_scene.proofs.Common.{◌≡◌, ℕ, zero, suc, ◌+◌, ◌-◌, ◌<◌, ◌≤◌, Bool, false, refl, ap, sym, subst, ◌∙◌, arith, List, [], ◌∷◌, ◌++◌, length}
 use Rattle.rh_scene.proofs.Common.{take, drop, get_or, Option, Some, None, slice_get, IfSome, append_assoc, length-append, length-take, take-append-drop}
 use Rattle.rh_scene.proofs.Common.{SEGMENTS_AT_ONCE, BlockItem, SegmentItem, total, Heap, Segment, Used, Hole, first_place, place_after, size_of}
 use Rattle.rh_scene.proofs.Common.{segment_item, segment_items_from, total-append, Piece, Legend, more_pieces, segment_pieces, Scene, HeapOf, heap_start_of}

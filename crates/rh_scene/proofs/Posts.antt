@@ -1,6 +1,6 @@
 -- The list of messages, and the post that it lists.
 use Rattle.rh_scene.proofs.Common.{◌≡◌, ℕ, ◌+◌, ◌<◌, ◌≤◌, Bool, true, false, refl, ap, ◌∙◌, arith, List, [], ◌∷◌, ◌++◌, map, Option, Some}
-use Rattle.rh_scene.proofs.Common.{None, ◌==◌, ◌&&◌, IfSome, find, if◌then◌else◌, AllByRecursion, option_map, ne_eqb, eqb-true, IsDesk, Desk, Task}
+use Rattle.rh_scene.proofs.Common.{None, ◌==◌, IfSome, find, if◌then◌else◌, AllByRecursion, option_map, ne_eqb, eqb-true, IsDesk, Desk, Task}
 use Rattle.rh_scene.proofs.Common.{Scene, MessageItem, lies_in}
 use Rattle.std.specs.List.{flat_map}
 use Rattle.rh_defs.specs.Laws.{HoldsOwn, IsHeld, Rise, seat_handles, task_handles}

@@ -1,5 +1,5 @@
 -- Walks over the segments of a heap, some at a time.
-use Rattle.rh_scene.proofs.Common.{◌≡◌, ℕ, zero, suc, ◌+◌, ◌-◌, ◌*◌, ◌<◌, ◌≤◌, refl, ap, ◌∙◌, arith, List, [], ◌∷◌, ◌++◌, length, take, Some}
+use Rattle.rh_scene.proofs.Common.{◌≡◌, ℕ, zero, suc, ◌+◌, ◌-◌, ◌<◌, refl, ap, ◌∙◌, arith, List, [], ◌∷◌, ◌++◌, length, take, Some}
 use Rattle.rh_scene.proofs.Common.{None, slice_get, SEGMENTS_AT_ONCE, SegmentItem, total, Segment, Used, Hole, size_of, segment_item, segment_items_from}
 use Rattle.rh_scene.proofs.Common.{Legend, segment_pieces, item_end}
 use Rattle.rh_figure.specs.Layout.{segment_piece}

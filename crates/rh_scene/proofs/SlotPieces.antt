@@ -2,7 +2,7 @@
 use Rattle.rh_scene.proofs.Common.{◌≡◌, ℕ, ◌+◌, ◌-◌, ◌*◌, ◌<◌, ◌≤◌, Bool, true, false, eqb, refl, ap, sym, ◌∙◌, arith, List, [], ◌∷◌, ◌++◌, length, take}
 use Rattle.rh_scene.proofs.Common.{drop, map, ◌||◌, AllByRecursion, eqb-true, length-append, length-take, take-append-drop, BlockItem, total, Heap, Segment}
 use Rattle.rh_scene.proofs.Common.{first_place, place_after, size_of, block_items, total-append, Piece, Legend, heap_pieces, more_pieces, segment_pieces}
-use Rattle.rh_scene.proofs.Common.{Scene, item_pieces, item_weight}
+use Rattle.rh_scene.proofs.Common.{Scene, Hole, Used, HeapOf, area_start_of, heap_start_of, item_pieces, item_weight, legend_of, segment_item}
 use Rattle.std.specs.List.{IsDistinct, list_any}
 use Rattle.std.proofs.lemmas.List.{append-nil, length-map}
 use Rattle.std.proofs.lemmas.Map.Steps.{length-le_from_distinct_below}
@@ -11,8 +11,11 @@ use Rattle.rh_defs.specs.Pieces.{page_size}
 use Rattle.rh_defs.specs.Heap.{base}
 use Rattle.rh_defs.specs.Slot.{Flex, HaveAnchors, IsFree, Slot, anchor_count, flex_start, slot_length, slot_pages, weight}
 use Rattle.rh_defs.proofs.HeapLists.{eqb_apart}
-use Rattle.rh_figure.specs.declared.piece.Kind.TheVariants.{AnchorWords, Descriptor, FreeTop, MoreSegments, Unused}
-use Rattle.rh_figure.specs.Layout.{flex_pieces, slot_legend, slot_pieces}
+use Rattle.rh_figure.specs.declared.piece.Kind.TheVariants.{AnchorWords, Descriptor, FreeHole, FreeTop, MoreSegments, Unused}
+use Rattle.rh_figure.specs.Layout.{flex_pieces, segment_piece, slot_legend, slot_pieces, vacates}
+use Rattle.rh_defs.specs.declared.question.SegmentItem.TheVariants as segment
+use Rattle.rh_scene.specs.Seen.{handle_for}
+use Rattle.rh_scene.specs.declared.sight.HeapOf.TheVariants as heap_of
 use Rattle.rh_scene.proofs.Heaps.{IsSeen}
 use Rattle.rh_scene.proofs.PieceWalks.{heap-join, items-pieces, items-weight, more-none, more-some, pieces-long}
 
@@ -59,7 +62,8 @@ pub heap-few : (g : Legend) (at : ℕ) (h : Heap) → length (heap_pieces g at h
 heap-few g at h =
     let front = segment_pieces g (at + first_place) (take 512 h.segments) in
     let more = more_pieces (at + first_place + total size_of (take 512 h.segments)) (drop 512 h.segments) in
-    let top : Piece = record { kind = FreeTop; at = at + base h; size = h.end - base h; fresh = false } in
+    let top : Piece =
+    record { kind = FreeTop; at = at + base h; size = h.end - base h; fresh = g.is_vacated (g.start + (at + base h)) (h.end - base h) } in
     omega (
       arith,
       length-append (front ++ more) (top ∷ []),
@@ -109,13 +113,14 @@ fits-at n place h p s =
 pub heap-whole : (g : Legend) (off at place end most : ℕ) (h : Heap) (old a b c e : List Piece) (first last : Piece)
     → at ≡ off → first ≡ record { kind = Descriptor; at = at; size = 16; fresh = false }
     → place ≡ place_after (take 512 h.segments) → end ≡ place + total size_of (drop 512 h.segments) → most ≡ h.end
-    → last ≡ record { kind = FreeTop; at = at + end; size = most - end; fresh = false }
+    → last ≡ record { kind = FreeTop; at = at + end; size = most - end; fresh = g.is_vacated (g.start + (at + end)) (most - end) }
     → a ≡ old ++ first ∷ [] → b ≡ a ++ segment_pieces g (off + first_place) (take 512 h.segments)
     → c ≡ b ++ more_pieces (off + first_place + total size_of (take 512 h.segments)) (drop 512 h.segments)
     → e ≡ c ++ last ∷ [] → e ≡ old ++ heap_pieces g off h
 heap-whole g off at place end most h old a b c e first last ea ef ep ee em el p q r s =
     let bottom : Piece = record { kind = Descriptor; at = off; size = first_place; fresh = false } in
-    let top : Piece = record { kind = FreeTop; at = off + base h; size = h.end - base h; fresh = false } in
+    let top : Piece =
+    record { kind = FreeTop; at = off + base h; size = h.end - base h; fresh = g.is_vacated (g.start + (off + base h)) (h.end - base h) } in
     let up : end ≡ base h = ends-base 512 place end h ep ee in
     let same_first : first ≡ bottom = cc in
     let same_last : last ≡ top = cc in
@@ -149,3 +154,41 @@ slot-whole x h end most pages s blocks none a b c e first last en ef p q eb em r
     let mid : b ≡ bottom ∷ heap = q ∙ ap (λ z. z ++ heap) low in
     let high : c ≡ bottom ∷ (heap ++ flex) = r ∙ (ap (λ z. z ++ item_pieces x h (heap_place + most) blocks) mid ∙ ap (λ z. bottom ∷ (heap ++ z)) drawn) in
     t ∙ (ap (λ z. z ++ last ∷ []) high ∙ ap (λ y. bottom ∷ ((heap ++ flex) ++ y ∷ [])) same_last)
+
+-- ---- free bytes
+
+-- where an area's legend begins
+pub legend-start : (x : Scene) (heap : HeapOf) (h : ℕ) → (legend_of x heap h).start ≡ area_start_of heap
+legend-start x (heap_of.Task i) h = refl
+legend-start x heap_of.Module h = refl
+
+pub area-low : (heap : HeapOf) → area_start_of heap ≤ heap_start_of heap
+area-low (heap_of.Task i) = omega arith
+area-low heap_of.Module = omega arith
+
+pub vacated-is : (x : Scene) (heap : HeapOf) (h a n : ℕ)
+    → vacates (handle_for heap h) a n x.marks.heap_effect ≡ (legend_of x heap h).is_vacated a n
+vacated-is x (heap_of.Task i) h a n = refl
+vacated-is x heap_of.Module h a n = refl
+
+-- the piece of a hole
+pub hole-is : (g : Legend) (start area place address size : ℕ) (s : Segment) (p : Piece) → area ≤ start → g.start ≡ area
+    → segment.Hole address size ≡ segment_item (start + place) s
+    → p ≡ record { kind = FreeHole; at = address - area; size = size; fresh = g.is_vacated address size }
+    → p ≡ segment_piece g (start - area + place) s
+hole-is g start area place address size (Used bytes) p low e is same = absurd (cc)
+hole-is g start area place address size (Hole n) p low e is same =
+    let here : address ≡ start + place = cc in
+    let long : size ≡ n = cc in
+    let at : address - area ≡ start - area + place = omega arith in
+    let back : g.start + (start - area + place) ≡ address = omega arith in
+    cc
+
+-- and that of the top
+pub top-is : (g : Legend) (start area at end size : ℕ) (p : Piece) → area ≤ start → g.start ≡ area → at ≡ start - area
+    → p ≡ record { kind = FreeTop; at = start - area + end; size = size; fresh = g.is_vacated (start + end) size }
+    → p ≡ record { kind = FreeTop; at = at + end; size = size; fresh = g.is_vacated (g.start + (at + end)) size }
+top-is g start area at end size p low e same_at same =
+    let behind : start + end ≡ g.start + (at + end) = omega arith in
+    let here : start - area + end ≡ at + end = omega arith in
+    cc

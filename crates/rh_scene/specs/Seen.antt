@@ -43,6 +43,11 @@ abbrev pub heap_start_of : HeapOf → ℕ
 heap_start_of (heap_of.Task i) = heap_start
 heap_start_of heap_of.Module = module_start
 
+-- the handle by which the effect on a heap is told: that of its task, 0 for the module area's heap
+abbrev pub handle_for : HeapOf → ℕ → ℕ
+handle_for (heap_of.Task i) handle = handle
+handle_for heap_of.Module handle = 0
+
 -- a segment begins at the place, and is a block with these bytes
 pub record IsBlockAt (h : Heap) (place : ℕ) (bytes : List ℕ) : Type 0 where
   pub below : List Segment

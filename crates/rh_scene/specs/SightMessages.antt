@@ -1,38 +1,9 @@
 -- The messages of a desk in a list.
-use Rattle.std.specs.Prelude.{ℕ, Bool, true, false, not, ◌&&◌, ◌==◌, if◌then◌else◌, List, [], ◌∷◌, ◌++◌, map, filter, find, Option, Some, None}
-use Rattle.std.specs.List.{flat_map}
-use Rattle.rh_defs.specs.Messages.{Parcel, action_of}
-use Rattle.rh_defs.specs.Order.{is_to}
-use Rattle.rh_defs.specs.Post.{Seat}
-use Rattle.rh_defs.specs.Desk.{Desk}
-use Rattle.rh_figure.specs.Scene.{held_list}
+use Rattle.std.specs.Prelude.{ℕ, Bool, not, ◌&&◌, ◌==◌, if◌then◌else◌, List, [], ◌∷◌, filter, find, Option, Some, None}
+pub use Rattle.rh_figure.specs.Scene.{seen_item, waiting_on, held_on, message_items}
 use Rattle.rh_defs.specs.declared.message.MessageItem.{MessageItem}
 use Rattle.rh_scene.specs.declared.message_list.MessagePlace.{MessagePlace}
 use Rattle.rh_scene.specs.declared.message_list.MessagePlace.TheVariants.{Held, Before, Last}
-
--- a message that waits, or is held
-abbrev pub seen_item : Bool → Parcel → MessageItem
-seen_item held p = record {
-  block = p.block;
-  to = p.to;
-  from = p.message.from;
-  my_ref = p.message.my_ref;
-  action = action_of p.message.body;
-  code = p.code;
-  held = held;
-}
-
--- the messages that wait, task by task
-abbrev pub waiting_on : Desk → List Parcel
-waiting_on d = flat_map (λ (s : Seat). filter (is_to s.handle) d.post.queued) d.post.seats
-
--- the messages that are held
-abbrev pub held_on : Desk → List Parcel
-held_on d = flat_map (λ (s : Seat). held_list s.holds) d.post.seats
-
--- those that wait, and then those that are held
-abbrev pub message_items : Desk → List MessageItem
-message_items d = map (seen_item false) (waiting_on d) ++ map (seen_item true) (held_on d)
 
 -- ---- looking through the list
 

@@ -37,6 +37,7 @@ abbrev pub marks_seen : Marks → scene.Marks
 marks_seen m = record {
   handle = m.handle;
   effect = effect_seen m.effect;
+  heap_effect = m.heap_effect;
   put = m.put;
   heap = block_seen m.heap;
   module_block = m.module_block;

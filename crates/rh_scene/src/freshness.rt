@@ -1,6 +1,6 @@
 //! What a command has changed, block by block.
 
-ghost use Rattle.std.specs.Prelude.{◌≡◌, ◌==◌, ◌&&◌, ◌||◌, length, not};
+ghost use Rattle.std.specs.Prelude.{◌≡◌, ◌+◌, ◌==◌, ◌&&◌, ◌||◌, length, nat_le, nat_lt, not};
 ghost use Rattle.std.specs.List.{list_any};
 ghost use Rattle.std.specs.Option.{option_map};
 ghost use Rattle.rh_defs.specs.declared.question.BlockItem.{BlockItem};
@@ -8,12 +8,15 @@ ghost use Rattle.rh_defs.specs.Desk.{Desk, Task};
 ghost use Rattle.rh_figure.specs.Figure.{is_drawn as is_drawn_in, is_recipient as is_recipient_of};
 ghost use Rattle.rh_figure.specs.Layout.{is_changed_block as is_changed_of, is_fresh_block as is_fresh_block_in};
 ghost use Rattle.rh_figure.specs.Layout.{is_fresh_flex as is_fresh_flex_in, is_put as is_put_of};
-ghost use Rattle.rh_scene.specs.Seen.{letter_seen};
+ghost use Rattle.rh_figure.specs.Layout.{vacates};
+ghost use Rattle.rh_scene.specs.Seen.{handle_for, letter_seen};
 ghost use Rattle.rh_scene.specs.Steps.{scene_at};
 
 use crate::marks::Marks;
+use crate::sight::HeapOf;
 use crate::step::Step;
 use rh_defs::{Anchor, BlockItem, Handle, Ref};
+use rh_figure::HeapEffect;
 use rh_figure::limits::MOST_SLOTS;
 
 /// Whether the command has changed the flex block of a task: wrote to it, or none of that anchor and size was there
@@ -55,6 +58,43 @@ pub fn is_fresh_block(step: &Step<'_>, handle: Handle, address: u32) -> bool
     ensures { (d : Desk) → result ≡ is_fresh_block_in (scene_at d step.now) handle address }
 {
     step.marks.heap.handle == handle && step.marks.heap.address == address
+}
+
+/// Whether the block that the command released, or moved away, lay among so many bytes at an address of a heap, that of
+/// the task with the handle or of the module area.
+pub fn is_vacated(step: &Step<'_>, heap: HeapOf, handle: Handle, address: u32, size: u32) -> bool
+    ensures { (d : Desk) → result
+        ≡ vacates (handle_for heap handle) address size (scene_at d step.now).marks.heap_effect }
+{
+    match step.marks.heap_effect {
+        HeapEffect::Released {
+            handle: owner,
+            address: at,
+        }
+        | HeapEffect::Resized {
+            handle: owner,
+            from: at,
+            ..
+        } => { owner == handle_of(heap, handle) && lies_among(at, address, size) }
+        _ => false,
+    }
+}
+
+/// The handle by which the effect on a heap is told.
+fn handle_of(heap: HeapOf, handle: Handle) -> Handle
+    ensures { result ≡ handle_for heap handle }
+{
+    match heap {
+        HeapOf::Task(_) => handle,
+        HeapOf::Module => Handle(0),
+    }
+}
+
+/// Whether an address is one of so many bytes from another on.
+fn lies_among(at: u32, address: u32, size: u32) -> bool
+    ensures { result ≡ (nat_le address at && nat_lt at (address + size)) }
+{
+    address <= at && u64::from(at) < u64::from(address) + u64::from(size)
 }
 
 /// Whether the message with the ref was sent by the command.

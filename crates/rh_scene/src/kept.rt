@@ -3,9 +3,9 @@
 ghost use Rattle.std.specs.Prelude.{◌≡◌, ◌≤◌, ◌<◌, ◌+◌, [], ◌++◌, IfNone, IfSome, length, map, slice_get, None, Some};
 ghost use Rattle.std.specs.Option.{option_map};
 ghost use Rattle.rh_defs.specs.Desk.{Task};
-ghost use Rattle.rh_defs.specs.declared.sizes.TheConstants.{MAX_AREAS};
+ghost use Rattle.rh_defs.specs.declared.sizes.TheConstants.{MAX_AREAS, MOST_MESSAGES};
 ghost use Rattle.rh_figure.specs.Changes.{item_with_anchor};
-ghost use Rattle.rh_figure.specs.Scene.{before_of, before_task};
+ghost use Rattle.rh_figure.specs.Scene.{before_of, before_task, size_named as size_named_by};
 ghost use Rattle.rh_figure.specs.Share.{count_of, holdings};
 ghost use Rattle.rh_scene.specs.SightMessages.{message_items};
 ghost use Rattle.rh_scene.specs.SightOwners.{holdings_of, shared_owner};
@@ -13,7 +13,8 @@ ghost use Rattle.rh_scene.specs.Inner.Holdings.{made_holding, slot_holding};
 ghost use Rattle.rh_scene.specs.Steps.{IsSender};
 
 use crate::message_list::held_ref;
-use crate::sight::Sight;
+use crate::segments::{block_size, segment_seen};
+use crate::sight::{Messages, Sight};
 use crate::step_sender::StepSender;
 use crate::tasks::task_about;
 use arrayvec::ArrayVec;
@@ -46,12 +47,15 @@ impl Default for Holding {
 }
 
 /// What is kept of a desk before a command: of the task that the command names its handle, blocks and the ref that it
-/// holds, 0 and none where it names no live one; the pages of each owner, the free ones, and the next ref.
+/// holds, 0 and none where it names no live one; the size of the heap's block that it names, 0 for none; all messages,
+/// the pages of each owner, the free ones, and the next ref.
 #[derive(Drop)]
 pub struct Kept {
     handle: Handle,
     blocks: ArrayVec<BlockItem, ANCHORS>,
     held: Ref,
+    size: u32,
+    messages: Messages,
     holdings: ArrayVec<Holding, MAX_AREAS>,
     free: u32,
     next_ref: u64,
@@ -67,6 +71,8 @@ impl Model for Kept {
       handle = s.handle;
       blocks = s.blocks.items;
       held = s.held;
+      size = s.size;
+      messages = s.messages.items;
       holdings = holdings_of s.holdings.items;
       free = s.free;
       next_ref = s.next_ref;
@@ -75,8 +81,8 @@ impl Model for Kept {
 
 impl Kept {
     /// What is kept of the desk before a command, or before a bad line.
-    pub fn new<S: Sight>(sight: &S, command: Option<&Command>, messages: &[MessageItem]) -> Kept
-        requires { messages.now ≡ message_items (S.desk sight.now) }
+    pub fn new<S: Sight>(sight: &S, command: Option<&Command>, messages: &Messages) -> Kept
+        requires { messages.now.items ≡ message_items (S.desk sight.now) }
         ensures { result ≡ before_of (S.desk sight.now) (option_map (λ c. c.now) command.entry) }
     {
         sight.recall_desk();
@@ -84,6 +90,8 @@ impl Kept {
             handle: Handle(0),
             blocks: ArrayVec::new(),
             held: Ref(0),
+            size: 0,
+            messages: copied(messages),
             holdings: ArrayVec::new(),
             free: sight.free_pages(),
             next_ref: sight.next_ref(),
@@ -92,6 +100,7 @@ impl Kept {
         if let Some(i) = task_about(sight, command) {
             kept.keep_task(sight, i, messages);
         }
+        kept.size = size_named(sight, kept.handle, command);
         kept
     }
 
@@ -99,9 +108,9 @@ impl Kept {
     fn keep_task<S: Sight>(&mut self, sight: &S, i: usize, messages: &[MessageItem])
         requires task { i < length (S.desk sight.now).tasks }
         requires messages { messages.now ≡ message_items (S.desk sight.now) }
-        requires before { self.old ≡ before_task (S.desk sight.now) None }
+        requires before { self.old ≡ before_task 0 (S.desk sight.now) None }
         ensures { (t : Task) → slice_get (S.desk sight.now).tasks i ≡ Some t → self.new
-            ≡ before_task (S.desk sight.now) (Some t) }
+            ≡ before_task 0 (S.desk sight.now) (Some t) }
     {
         sight.recall_desk();
         if let Some(task) = sight.task(i) {
@@ -133,6 +142,21 @@ impl Kept {
         ensures { result ≡ self.now.held }
     {
         self.held
+    }
+
+    /// The size of the heap's block that the command named, 0 for none.
+    pub fn size(&self) -> u32
+        ensures { result ≡ self.now.size }
+    {
+        self.size
+    }
+
+    /// All messages.
+    pub fn messages(&self) -> &[MessageItem]
+        ensures value { result.now ≡ self.now.messages }
+        ensures few { length result.now ≤ MOST_MESSAGES }
+    {
+        &self.messages
     }
 
     /// The free pages.
@@ -171,6 +195,21 @@ impl Kept {
     }
 }
 
+/// The size of the heap's block that a command names, 0 where it names none, by the handle of the task that it names.
+fn size_named<S: Sight>(sight: &S, handle: Handle, command: Option<&Command>) -> u32
+    ensures { result ≡ size_named_by handle (option_map (λ c. c.now) command.entry) (S.desk sight.now) }
+{
+    match command {
+        Some(Command::Release { address, .. } | Command::Resize { address, .. }) => {
+            block_size(segment_seen(sight, handle, *address))
+        }
+        Some(Command::RmaFree { address } | Command::RmaResize { address, .. }) => {
+            block_size(segment_seen(sight, Handle(0), *address))
+        }
+        _ => 0,
+    }
+}
+
 /// How many pages an owner has by a list, 0 where it isn't in it.
 fn count_among(holdings: &[Holding], owner: Owner) -> u32
     ensures { result ≡ count_of (shared_owner owner) (holdings_of holdings.now) }
@@ -193,6 +232,15 @@ pub(crate) fn item_at(blocks: &[BlockItem], anchor: Anchor) -> Option<BlockItem>
         }
     }
     None
+}
+
+/// The same messages.
+fn copied(messages: &Messages) -> Messages
+    ensures { result.items ≡ messages.now.items }
+{
+    let mut list = ArrayVec::new();
+    let _ = list.try_extend_from_slice(messages.as_slice());
+    list
 }
 
 /// Puts all owners into a list: areas 0 to 5, the made ones, and the slots in order of handle.

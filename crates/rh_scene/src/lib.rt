@@ -8,18 +8,20 @@ mod marks;
 mod message_list;
 mod pages;
 mod pieces;
+mod segments;
 mod sight;
 mod step;
 mod step_sender;
 mod tasks;
 mod walk;
 
-pub use freshness::{is_drawn, is_fresh_block, is_fresh_flex, is_new_ref};
+pub use freshness::{is_drawn, is_fresh_block, is_fresh_flex, is_new_ref, is_vacated};
 pub use kept::{Holding, Kept, Owner};
 pub use marks::{Effect, HeapBlock, Marks, is_still, sent_by};
 pub use message_list::{MessagePlace, held_by, message_in, place_of};
 pub use pages::{free_of, pages_of};
 pub use pieces::{MOST_PIECES, Pieces, module_pieces, slot_pieces};
+pub use segments::{block_size, segment_seen, top_size};
 pub use sight::{
     AreaSight, HeapOf, Messages, PageList, PagesOf, ScrapSight, Segments, Sight, TaskSight,
 };

@@ -5,10 +5,12 @@ ghost use Rattle.std.specs.Option.{option_map};
 ghost use Rattle.rh_defs.specs.Desk.{task_at};
 ghost use Rattle.rh_defs.specs.Commands.{is_refused};
 ghost use Rattle.rh_figure.specs.Scene.{Before, buffer_of as buffer_of_sent, effect_of as effect_of_command};
-ghost use Rattle.rh_figure.specs.Scene.{heap_mark as heap_mark_of, moved_effect as moved_effect_of};
+ghost use Rattle.rh_figure.specs.Scene.{heap_effect_of as heap_effect_of_command, heap_mark as heap_mark_of};
+ghost use Rattle.rh_figure.specs.Scene.{moved_effect as moved_effect_of};
 ghost use Rattle.rh_figure.specs.Scene.{is_question as is_question_of, is_still as is_still_of, marks_for};
 ghost use Rattle.rh_figure.specs.Scene.{marks_of as marks_of_desk, module_mark as module_mark_of, no_marks};
 ghost use Rattle.rh_figure.specs.Scene.{put_mark as put_mark_of, sent_by as sent_by_task, taken_mark as taken_mark_of};
+ghost use Rattle.rh_figure.specs.declared.heap_effect.HeapEffect.TheVariants.{Claimed, Released, Resized};
 ghost use Rattle.rh_scene.specs.Seen.{letter_seen};
 ghost use Rattle.rh_scene.specs.Steps.{IsSender, block_seen, effect_seen, marks_seen};
 
@@ -17,6 +19,7 @@ use crate::sight::Sight;
 use crate::step_sender::StepSender;
 use crate::tasks::task_with;
 use rh_defs::{Action, Anchor, Body, Bytes, Command, Handle, Letter, Name, Ref, Reply};
+use rh_figure::HeapEffect;
 
 /// A block of a C heap: its task and its address, 0 and 0 for none.
 #[derive(Clone, Copy, Debug, PartialEq, Eq)]
@@ -66,13 +69,14 @@ pub enum Effect<'a> {
     },
 }
 
-/// What a command did: the task that it names, its effect, the anchor of the block that it wrote to, the block of a C
-/// heap and that of the module area (0 for none) that it made or changed, the letter that was sent, and the message
-/// that was taken.
+/// What a command did: the task that it names, its effect, what became of a heap's block, the anchor of the block that
+/// it wrote to, the block of a C heap and that of the module area (0 for none) that it made or changed, the letter
+/// that was sent, and the message that was taken.
 #[derive(Clone, Copy)]
 pub struct Marks<'a> {
     pub handle: Handle,
     pub effect: Effect<'a>,
+    pub heap_effect: HeapEffect,
     pub put: Option<Anchor>,
     pub heap: HeapBlock,
     pub module_block: u32,
@@ -106,6 +110,7 @@ impl<'a> Marks<'a> {
         Marks {
             handle: Handle(0),
             effect: Effect::None,
+            heap_effect: HeapEffect::Nothing,
             put: None,
             heap: NO_BLOCK,
             module_block: 0,
@@ -132,6 +137,7 @@ impl<'a> Marks<'a> {
         Marks {
             handle: kept.handle(),
             effect: effect_of(command, reply),
+            heap_effect: heap_effect_of(kept.handle(), command, reply),
             put: put_mark(command),
             heap,
             module_block: module_mark(command, reply),
@@ -270,6 +276,45 @@ fn effect_of<'a>(command: &'a Command, reply: &Reply) -> Effect<'a>
         },
         _ => Effect::None,
     }
+}
+
+/// What became of a heap's block, by the handle of the task that the command names.
+fn heap_effect_of(handle: Handle, command: &Command, reply: &Reply) -> HeapEffect
+    ensures { result ≡ heap_effect_of_command handle command.now reply.now }
+{
+    let area = Handle(0);
+    match (command, reply) {
+        (Command::Claim { .. }, Reply::Block { address }) => claimed(handle, *address),
+        (Command::Release { address, .. }, _) => released(handle, *address),
+        (Command::Resize { address, .. }, Reply::Block { address: to }) => {
+            resized(handle, *address, *to)
+        }
+        (Command::RmaClaim { .. }, Reply::Block { address }) => claimed(area, *address),
+        (Command::RmaFree { address }, _) => released(area, *address),
+        (Command::RmaResize { address, .. }, Reply::Block { address: to }) => {
+            resized(area, *address, *to)
+        }
+        _ => HeapEffect::Nothing,
+    }
+}
+
+/// A block that was claimed, one that was released, and one that was resized.
+fn claimed(handle: Handle, address: u32) -> HeapEffect
+    ensures { result ≡ Claimed handle address }
+{
+    HeapEffect::Claimed { handle, address }
+}
+
+fn released(handle: Handle, address: u32) -> HeapEffect
+    ensures { result ≡ Released handle address }
+{
+    HeapEffect::Released { handle, address }
+}
+
+fn resized(handle: Handle, from: u32, to: u32) -> HeapEffect
+    ensures { result ≡ Resized handle from to }
+{
+    HeapEffect::Resized { handle, from, to }
 }
 
 /// An area that got bytes, or lost them.

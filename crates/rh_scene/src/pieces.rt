@@ -9,6 +9,7 @@ ghost use Rattle.rh_defs.specs.Questions.{block_items, segment_item, segment_ite
 ghost use Rattle.rh_defs.specs.declared.sizes.TheConstants.{MODULE_START};
 ghost use Rattle.rh_figure.specs.Layout.{heap_pieces, module_legend, module_pieces as module_pieces_of, segment_piece};
 ghost use Rattle.rh_figure.specs.Layout.{segment_pieces, slot_pieces as slot_pieces_of};
+ghost use Rattle.rh_figure.specs.declared.piece.Kind.TheVariants.{FreeHole, FreeTop};
 ghost use Rattle.rh_figure.specs.declared.limits.TheConstants.{MOST_SEGMENTS};
 ghost use Rattle.rh_scene.specs.Seen.{IsTaskSeen, heap_seen, heap_start_of};
 ghost use Rattle.rh_scene.specs.Steps.{IsStepOf, scene_at};
@@ -16,7 +17,7 @@ ghost use Rattle.rh_scene.specs.Inner.WalkItems.{area_start_of, IsInArea, item_p
 ghost use Rattle.rh_scene.specs.Inner.WalkItems.{legend_of};
 ghost use Rattle.rh_scene.specs.declared.pieces.TheConstants.{MOST_PIECES};
 
-use crate::freshness::{is_fresh_block, is_fresh_flex, is_new_ref};
+use crate::freshness::{is_fresh_block, is_fresh_flex, is_new_ref, is_vacated};
 use crate::message_list::message_in;
 use crate::sight::{HeapOf, Sight, TaskSight};
 use crate::step::Step;
@@ -154,8 +155,28 @@ fn push_heap<S: Sight>(sight: &S, step: &Step<'_>, drawn: &DrawnHeap, pieces: &m
         };
         pieces.push(plain(kind, at + place as usize, (others.end - place) as usize));
     }
-    let top = (sight.heap_end(drawn.heap) - others.end) as usize;
-    pieces.push(plain(Kind::FreeTop, at + others.end as usize, top));
+    let top = sight.heap_end(drawn.heap) - others.end;
+    pieces.push(top_piece(step, drawn, others.end, top));
+}
+
+/// What is free above a heap's last segment, which ends so many bytes from the heap's first one.
+fn top_piece(step: &Step<'_>, drawn: &DrawnHeap, end: u32, size: u32) -> Piece
+    requires { end ≤ 2 ^ 22 }
+    ensures { (d : Desk) → result ≡ record {
+      kind = FreeTop;
+      at = heap_start_of drawn.now.heap - area_start_of drawn.now.heap + end;
+      size = size;
+      fresh = (legend_of (scene_at d step.now) drawn.now.heap drawn.now.handle).is_vacated
+          (heap_start_of drawn.now.heap + end) size;
+    } }
+{
+    let start = heap_address(drawn.heap);
+    Piece {
+        kind: Kind::FreeTop,
+        at: (start - area_address(drawn.heap)) as usize + end as usize,
+        size: size as usize,
+        fresh: is_vacated_in(step, drawn, start + end, size),
+    }
 }
 
 /// Appends the segments that are drawn one by one, and answers where the last ends, in bytes from the heap's first
@@ -222,12 +243,34 @@ fn piece_of(step: &Step<'_>, drawn: &DrawnHeap, item: &SegmentItem) -> Piece
                 fresh,
             }
         }
-        SegmentItem::Hole { address, size } => plain(
-            Kind::FreeHole,
-            (*address - start) as usize,
-            *size as usize,
-        ),
+        SegmentItem::Hole { address, size } => hole_piece(step, drawn, *address, *size),
     }
+}
+
+/// The piece of a hole.
+fn hole_piece(step: &Step<'_>, drawn: &DrawnHeap, address: u32, size: u32) -> Piece
+    requires { area_start_of drawn.now.heap ≤ address }
+    ensures { (d : Desk) → result ≡ record {
+      kind = FreeHole;
+      at = address - area_start_of drawn.now.heap;
+      size = size;
+      fresh = (legend_of (scene_at d step.now) drawn.now.heap drawn.now.handle).is_vacated address size;
+    } }
+{
+    Piece {
+        kind: Kind::FreeHole,
+        at: (address - area_address(drawn.heap)) as usize,
+        size: size as usize,
+        fresh: is_vacated_in(step, drawn, address, size),
+    }
+}
+
+/// Whether the block that the command released, or moved away, lay among so many bytes at an address of a heap.
+fn is_vacated_in(step: &Step<'_>, drawn: &DrawnHeap, address: u32, size: u32) -> bool
+    ensures { (d : Desk) → result
+        ≡ (legend_of (scene_at d step.now) drawn.now.heap drawn.now.handle).is_vacated address size }
+{
+    is_vacated(step, drawn.heap, drawn.handle, address, size)
 }
 
 /// What the block of a heap at an address is, and whether the command has changed it.

@@ -1,5 +1,5 @@
 -- What a first walk over a heap finds: which blocks have changed, and how many segments there are.
-use Rattle.std.specs.Prelude.{◌≡◌, ℕ, ◌+◌, ◌-◌, ◌==◌, ◌&&◌, nat_le, Bool, false, if◌then◌else◌, List, [], ◌∷◌, Option, Some, None}
+use Rattle.std.specs.Prelude.{◌≡◌, ℕ, ◌+◌, ◌-◌, ◌==◌, ◌&&◌, nat_le, Bool, if◌then◌else◌, List, [], ◌∷◌, Option, Some, None}
 use Rattle.rh_defs.specs.declared.question.SegmentItem.{SegmentItem}
 use Rattle.rh_defs.specs.declared.question.SegmentItem.TheVariants as segment
 use Rattle.rh_defs.specs.Messages.{Parcel}
@@ -7,11 +7,11 @@ use Rattle.rh_defs.specs.Heap.{Heap, first_place}
 use Rattle.rh_defs.specs.Desk.{module_start}
 use Rattle.rh_defs.specs.Questions.{segment_items_from}
 use Rattle.rh_figure.specs.Scene.{Scene, message_of_scene}
-use Rattle.rh_figure.specs.Layout.{is_fresh_block, is_new_message}
+use Rattle.rh_figure.specs.Layout.{is_fresh_block, is_new_message, vacates}
 use Rattle.rh_figure.specs.declared.limits.TheConstants.{MOST_CARDS}
 use Rattle.rh_scene.specs.declared.sight.HeapOf.{HeapOf}
 use Rattle.rh_scene.specs.declared.sight.HeapOf.TheVariants as heap_of
-use Rattle.rh_scene.specs.Seen.{heap_start_of}
+use Rattle.rh_scene.specs.Seen.{handle_for, heap_start_of}
 use Rattle.rh_pictures.specs.declared.walks.heap_cards.Band.{Band}
 use Rattle.rh_pictures.specs.declared.walks.heap_cards.Survey.{Survey}
 
@@ -27,7 +27,7 @@ is_fresh_at x handle heap_of.Module address = is_fresh_or_posted x address (mess
 
 abbrev pub is_fresh_card : Scene → Band → SegmentItem → Bool
 is_fresh_card x b (segment.Used address size) = is_fresh_at x b.handle b.heap address
-is_fresh_card x b (segment.Hole address size) = false
+is_fresh_card x b (segment.Hole address size) = vacates (handle_for b.heap b.handle) address size x.marks.heap_effect
 
 -- whether the block at an address of a heap, which is no message, has changed
 abbrev pub is_fresh_block_of : Scene → ℕ → HeapOf → ℕ → Bool

@@ -78,8 +78,8 @@ impl CardArtist for MapArtist {
         print_used_card(block, pen);
     }
 
-    fn hole_card<P: Pen>(&self, _at: u32, address: u32, size: u32, pen: &mut P) {
-        print_hole_card(address, size, pen);
+    fn hole_card<P: Pen>(&self, _at: u32, address: u32, size: u32, fresh: bool, pen: &mut P) {
+        print_hole_card(address, size, fresh, pen);
     }
 
     fn message_card<P: Pen>(&self, _at: u32, message: &CardMessage<'_>, pen: &mut P) {

@@ -59,13 +59,13 @@ impl CardArtist for BandForm {
         put_card(*self, at, &card, pen);
     }
 
-    fn hole_card<P: Pen>(&self, at: u32, address: u32, size: u32, pen: &mut P) {
+    fn hole_card<P: Pen>(&self, at: u32, address: u32, size: u32, fresh: bool, pen: &mut P) {
         let name = hole_name(address);
         let mut bytes = Row::new();
         add_size(&mut bytes, size);
         let card = Card {
             look: Look::Hole,
-            fresh: false,
+            fresh,
             first: name.as_slice(),
             second: bytes.as_slice(),
             third: b"",

@@ -16,7 +16,7 @@ use arrayvec::ArrayVec;
 use rh_defs::Action;
 use rh_elements::{is_lost, is_queued};
 use rh_lines::Row;
-use rh_map::action_name;
+use rh_map::add_action;
 use rh_sheet::sizes::MOST_NOTES;
 use rh_sheet::{Fate, Note};
 
@@ -139,7 +139,7 @@ impl MessageArrow {
         let mut row = Row::new();
         row.decimal(self.my_ref);
         row.byte(b' ');
-        row.text(action_name(self.action));
+        add_action(&mut row, self.action);
         if self.is_back {
             row.text(b" back");
         }

@@ -15,11 +15,12 @@ ghost use Rattle.rh_pictures.specs.Inner.BandItems.{place_seen, HasSegment, IsIt
 ghost use Rattle.rh_pictures.specs.DrawnCards.{cards_text};
 ghost use Rattle.rh_pictures.specs.Inner.CardsBehind.{cards_behind};
 ghost use Rattle.rh_figure.specs.Cards.{hole_card, in_use_text, post_card, shown_cards, used_card};
+ghost use Rattle.rh_figure.specs.Layout.{vacates};
 ghost use Rattle.rh_figure.specs.Scene.{live};
 ghost use Rattle.rh_figure.specs.declared.limits.TheConstants.{MOST_CARDS};
 ghost use Rattle.rh_map.specs.MapMessages.{place_text};
 ghost use Rattle.rh_scene.specs.SightMessages.{lies_in};
-ghost use Rattle.rh_scene.specs.Seen.{SeesBlock, SeesFree, heap_seen, heap_start_of};
+ghost use Rattle.rh_scene.specs.Seen.{SeesBlock, SeesFree, handle_for, heap_seen, heap_start_of};
 ghost use Rattle.rh_scene.specs.Steps.{IsStepOf, scene_at};
 ghost use Rattle.rh_scene.specs.Inner.WalkItems.{IsInArea};
 
@@ -33,8 +34,8 @@ use rh_figure::limits::{CARD_BYTES, MOST_CARDS};
 use rh_lines::Pen;
 use rh_map::{CardBlock, CardMessage, ChainPlace};
 use rh_scene::{
-    HeapOf, MessagePlace, Sight, Step, heap_address, is_fresh_block, is_new_ref, message_in,
-    place_behind, place_of,
+    HeapOf, MessagePlace, Sight, Step, heap_address, is_fresh_block, is_new_ref, is_vacated,
+    message_in, place_behind, place_of,
 };
 
 /// A heap whose blocks have cards, with the handle of its task and the records of its transfers that come in; 0 and
@@ -208,19 +209,27 @@ fn first_fresh(
     Some(*item)
 }
 
-/// Whether the command has changed the block that a segment is.
+/// Whether the block that the command released, or moved away, lay among the bytes of a hole.
+fn is_vacated_in(step: &Step<'_>, band: &Band<'_>, address: u32, size: u32) -> bool
+    ensures { (d : Desk) → result
+        ≡ vacates (handle_for band.now.heap band.now.handle) address size (scene_at d step.now).marks.heap_effect }
+{
+    is_vacated(step, band.heap, band.handle, address, size)
+}
+
+/// Whether the command has changed the block or the hole that a segment is.
 fn is_fresh(step: &Step<'_>, band: &Band<'_>, item: &SegmentItem) -> bool
     requires { IsInArea band.now.heap item.now }
     ensures { (d : Desk) → IsStepOf d step.now → result ≡ is_fresh_card (scene_at d step.now) band.now item.now }
 {
-    let SegmentItem::Used { address, .. } = item else {
-        return false;
-    };
-    match band.heap {
-        HeapOf::Task(_) => is_fresh_block(step, band.handle, *address),
-        HeapOf::Module => match message_at(step, *address) {
-            Some(message) => is_new_ref(step, message.my_ref),
-            None => step.marks.module_block == *address,
+    match item {
+        SegmentItem::Hole { address, size } => is_vacated_in(step, band, *address, *size),
+        SegmentItem::Used { address, .. } => match band.heap {
+            HeapOf::Task(_) => is_fresh_block(step, band.handle, *address),
+            HeapOf::Module => match message_at(step, *address) {
+                Some(message) => is_new_ref(step, message.my_ref),
+                None => step.marks.module_block == *address,
+            },
         },
     }
 }
@@ -261,7 +270,10 @@ fn show_segment<S: Sight, A: CardArtist, P: Pen>(
 {
     sight.recall_desk();
     match item {
-        SegmentItem::Hole { address, size } => artist.hole_card(at, *address, *size, pen),
+        SegmentItem::Hole { address, size } => {
+            let fresh = is_vacated_in(step, band, *address, *size);
+            artist.hole_card(at, *address, *size, fresh, pen);
+        }
         SegmentItem::Used { address, size } => match band.heap {
             HeapOf::Task(_) => show_used(sight, step, band, *address, *size, artist, at, pen),
             HeapOf::Module => match message_at(step, *address) {

@@ -1,4 +1,4 @@
-use Rattle.rh_map.proofs.Common.{◌≡◌, Bool, List, [], ◌∷◌, ◌++◌, ap, sym, ◌∙◌, append_assoc, append-nil, codes, eqb_apart}
+use Rattle.rh_map.proofs.Common.{◌≡◌, Bool, [], ◌∷◌, ◌++◌, ap, sym, ◌∙◌, append_assoc, append-nil, codes, eqb_apart}
 use Rattle.std.specs.Prelude.{if◌then◌else◌}
 use Rattle.std.specs.List.{concat}
 use Rattle.rh_defs.specs.Text.{address}

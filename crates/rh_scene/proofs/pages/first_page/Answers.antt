@@ -1,8 +1,7 @@
-use Rattle.rh_scene.proofs.Common.{◌≡◌, ◌∙◌, ◌+◌, ap, arith}
+use Rattle.rh_scene.proofs.Common.{ap, arith}
 use Rattle.rh_defs.specs.declared.sizes.TheConstants.{FIXED_AREAS}
 use Rattle.rh_defs.specs.Desk.{most_made}
 use Rattle.rh_scene.specs.declared.sight.PagesOf.{PagesOf}
-use Rattle.rh_scene.specs.declared.sight.PagesOf.TheVariants as pages
 use Rattle.rh_scene.specs.Inner.OwnerPlaces.{pages_before}
 use Rattle.rh_scene.proofs.Holders.{all-made, before-fixed, before-made, before-slot, fixed-room, free-few, made-few, slots-few, within-fixed, within-made}
 use Rattle.rh_scene.proofs.pages.first_page.Goals as goal

@@ -1,4 +1,4 @@
-use Rattle.rh_scene.proofs.Common.{◌≤◌, ◌∙◌, arith, Made}
+use Rattle.rh_scene.proofs.Common.{arith, Made}
 use Rattle.rh_scene.proofs.Heaps.{total-one}
 use Rattle.rh_scene.proofs.Holders.{made-all-few, made-few}
 use Rattle.rh_scene.proofs.Places.{total-more, total-past}

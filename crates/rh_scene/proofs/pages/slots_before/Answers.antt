@@ -1,4 +1,4 @@
-use Rattle.rh_scene.proofs.Common.{◌≤◌, ◌∙◌, arith, task_pages}
+use Rattle.rh_scene.proofs.Common.{arith, task_pages}
 use Rattle.rh_scene.proofs.Heaps.{total-one}
 use Rattle.rh_scene.proofs.Holders.{slots-all-few, slots-few}
 use Rattle.rh_scene.proofs.Places.{total-more, total-past}

@@ -1,4 +1,4 @@
-use Rattle.rh_scene.proofs.Common.{◌≡◌, ◌∙◌, ◌+◌, ◌++◌, ap, arith, BlockItem, item_pieces, scene_at}
+use Rattle.rh_scene.proofs.Common.{◌≡◌, ◌∙◌, ◌++◌, ap, arith, BlockItem, item_pieces, scene_at}
 use Rattle.rh_defs.specs.Slot.{flex_weight}
 use Rattle.rh_figure.specs.Layout.{is_fresh_flex}
 use Rattle.rh_scene.proofs.PieceWalks.{blocks-step, weights-more}

@@ -1,9 +1,9 @@
-use Rattle.rh_scene.proofs.Common.{◌≡◌, ◌≤◌, ◌<◌, ◌∙◌, ◌+◌, ◌-◌, ◌++◌, ◌∷◌, length, take, drop, ap, arith, heap_start_of, scene_at, area_start_of, legend_of}
+use Rattle.rh_scene.proofs.Common.{◌≡◌, ◌≤◌, ◌<◌, ◌∙◌, ◌+◌, ◌-◌, ◌++◌, length, take, drop, ap, arith, heap_start_of, scene_at, area_start_of, legend_of}
 use Rattle.rh_scene.proofs.Common.{total, first_place, place_after, size_of, more_pieces, segment_pieces, Census, heap_seen}
 use Rattle.rh_scene.proofs.Heaps.{seen}
 use Rattle.rh_scene.proofs.Holders.{if-some, some-of}
 use Rattle.rh_scene.proofs.PieceWalks.{at-heap, comes-at}
-use Rattle.rh_scene.proofs.SlotPieces.{fits-at, front-few, heap-whole, more-else, more-then}
+use Rattle.rh_scene.proofs.SlotPieces.{area-low, fits-at, front-few, heap-whole, legend-start, more-else, more-then, top-is}
 use Rattle.rh_scene.proofs.pieces.push_heap.Goals as goal
 use Rattle.rh_scene.proofs.pieces.push_heap.Goals.{then-others-gt0, else-others-gt0}
 
@@ -41,6 +41,15 @@ overflow_sub-top g c =
     let fits = fits-at 512 c.push_segments-place.result r.0 at (seen c.recall_desk.ensures c.args.drawn.now.heap r.0 r.1) in
     let end = at-heap r.0 r.1 (λ k. c.heap_end.result ≡ k.end) c.heap_end.ensures in
     omega (arith, ap (λ (x : Census). x.end) census)
+
+pub top_piece-requires : goal.top_piece-requires
+top_piece-requires g c =
+    let r = some-of (heap_seen c.args.drawn.now.heap (g.S.Sight.desk c.args.sight.now)) c.requires.heap in
+    let at = at-heap r.0 r.1 (λ k. c.push_segments-place.result ≡ place_after (take 512 k.segments)) c.push_segments-place.ensures.place in
+    let census = c.take_census-others.ensures (drop 512 r.0.segments) (comes-at r.0 512 c.push_segments-place.result r.1 at) in
+    let s = seen c.recall_desk.ensures c.args.drawn.now.heap r.0 r.1 in
+    let fits = fits-at 512 c.push_segments-place.result r.0 at s in
+    omega (arith, s.few, ap (λ (x : Census). x.end) census)
 
 pub push-requires-2 : goal.push-requires-2
 push-requires-2 g c =
@@ -88,7 +97,10 @@ returns g c =
           high count
           w.if-others-gt0.false (ap (λ v. v.items) w.pieces-is)
     ] in
+    let top = top-is legend (heap_start_of heap) (area_start_of heap) (c.heap_address.result - c.area_address.result) c.take_census-others.result.end
+    (c.heap_end.result - c.take_census-others.result.end) c.top_piece.result (area-low heap)
+    (legend-start (scene_at d c.args.step.now) heap c.args.drawn.now.handle) begins (c.top_piece.ensures d) in
     heap-whole legend off (c.heap_address.result - c.area_address.result) place c.take_census-others.result.end c.heap_end.result h c.args.pieces.now.items
     low mid high
-    c.push-2.new.self.items c.plain.result c.plain-2.result begins c.plain.ensures at end most c.plain-2.ensures c.push.ensures.items segs more
+    c.push-2.new.self.items c.plain.result c.top_piece.result begins c.plain.ensures at end most top c.push.ensures.items segs more
     c.push-2.ensures.items)

@@ -1,4 +1,4 @@
-use Rattle.rh_scene.proofs.Common.{◌≡◌, ◌≤◌, ◌∙◌, ◌+◌, ◌-◌, ◌++◌, ◌∷◌, ap, arith, length, take, get_or, take_all, total, Hole, size_of}
+use Rattle.rh_scene.proofs.Common.{◌≤◌, ◌∙◌, ◌+◌, ◌-◌, ◌++◌, ap, arith, length, take, get_or, take_all, total, Hole, size_of}
 use Rattle.rh_scene.proofs.Common.{segment_pieces, heap_start_of, scene_at, area_start_of, legend_of}
 use Rattle.rh_scene.proofs.PieceWalks.{item-here, item-in-area, items-on}
 use Rattle.rh_scene.proofs.SegmentWalks.{length-items}

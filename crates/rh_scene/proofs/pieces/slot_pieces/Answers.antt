@@ -1,4 +1,4 @@
-use Rattle.rh_scene.proofs.Common.{◌≡◌, ◌≤◌, ◌<◌, ◌∙◌, ◌+◌, ◌++◌, Some, length, ap, sym, subst, arith, slice_get, option_map, length-append}
+use Rattle.rh_scene.proofs.Common.{◌≡◌, ◌<◌, ◌∙◌, ◌+◌, ◌++◌, Some, length, ap, sym, subst, arith, slice_get, option_map, length-append}
 use Rattle.rh_scene.proofs.Common.{Task, Heap, block_items, heap_pieces, scene_at, item_pieces}
 use Rattle.rh_defs.specs.SlotImage.{heap_place}
 use Rattle.rh_defs.specs.Slot.{flex_start}

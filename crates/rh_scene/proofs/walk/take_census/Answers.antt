@@ -1,4 +1,4 @@
-use Rattle.rh_scene.proofs.Common.{◌≡◌, ◌∙◌, ◌-◌, length, ap, arith, slice_get, heap_start_of}
+use Rattle.rh_scene.proofs.Common.{◌∙◌, ◌-◌, length, ap, arith, slice_get, heap_start_of}
 use Rattle.rh_scene.proofs.Heaps.{census-is, comes-next, comes-parts, counted-all, counted-more, counted-none, counted-so, seen, start-small, stepped, told}
 use Rattle.rh_scene.proofs.walk.take_census.Goals as goal
 

@@ -39,3 +39,7 @@ returns-in-None c = λ d step.
     let T : Option MessageItem → Type 0 = λ z. Told b z (message_of_scene x b) in
     told-none x b c.in-Used.address (message_of_scene x b) (subst T here (message-told b d))
     ∙ sym (ap (is_fresh_card x band) c.in-Used.is ∙ ap (λ h. is_fresh_at x band.handle h c.in-Used.address) c.in-Module.is)
+
+pub returns-in-Hole : goal.returns-in-Hole
+returns-in-Hole c = λ d step.
+    c.is_vacated_in.ensures d ∙ sym (ap (is_fresh_card (scene_at d c.args.step.now) c.args.band.now) c.in-Hole.is)

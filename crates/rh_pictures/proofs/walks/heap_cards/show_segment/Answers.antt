@@ -1,11 +1,12 @@
 use Rattle.rh_pictures.proofs.Common.{◌≡◌, ◌∙◌, ℕ, ◌+◌, ◌-◌, ◌++◌, Option, Some, None, ap, sym, subst, arith, ◌==◌, find, Parcel, MessageItem, held_on}
 use Rattle.rh_pictures.proofs.Common.{message_items, waiting_on, heap_seen, heap_start_of, scene_at, offered_as}
 use Rattle.rh_defs.specs.Post.{post_is_message}
+use Rattle.rh_figure.specs.Cards.{hole_card}
 use Rattle.rh_figure.specs.Scene.{live, message_of_scene}
 use Rattle.rh_scene.specs.declared.sight.HeapOf.{HeapOf}
 use Rattle.rh_scene.specs.SightMessages.{lies_in}
 use Rattle.rh_scene.specs.Seen.{SeesBlock, SeesFree}
-use Rattle.rh_pictures.proofs.HeapLemmas.{block-free, has-block, module-is, posted-is, task-is, told-none, told-some, used-here}
+use Rattle.rh_pictures.proofs.HeapLemmas.{block-free, has-block, hole-card, hole-here, module-is, posted-is, task-is, told-none, told-some, used-here}
 use Rattle.rh_pictures.proofs.PostLemmas.{Told, message-told, stands_in}
 use Rattle.rh_pictures.proofs.walks.heap_cards.show_segment.Goals as goal
 
@@ -74,3 +75,16 @@ returns-in-None g c = λ place segment has is.
     offered_as _
     (ap (λ z. text (c.args.at, z)) (module-is x d b (start + place) a c.in-Used.size segment c.in-Module.is c.requires.band none q))
     (c.show_used-in-None.ensures d q.bytes c.requires.step (subst P there (has-block q.bytes has q.is)) q.size)
+
+pub returns-in-Hole : goal.returns-in-Hole
+returns-in-Hole g c = λ place segment has is.
+    let text = g.A.CardArtist.card_text c.args.artist.now in
+    let d = g.S.Sight.desk c.args.sight.now in
+    let x = scene_at d c.args.step.now in
+    let b = c.args.band.now in
+    let start = heap_start_of b.heap in
+    let a = c.in-Hole.address in
+    let n = c.in-Hole.size in
+    let q = hole-here (start + place) a n segment (sym is ∙ c.in-Hole.is) in
+    offered_as _ (ap (λ z. text (c.args.at, z)) (ap (hole_card a n) (c.is_vacated_in-fresh.ensures d)
+    ∙ hole-card x d b (start + place) a n segment c.requires.band q)) c.hole_card.ensures

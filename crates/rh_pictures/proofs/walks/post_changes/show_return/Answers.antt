@@ -9,6 +9,6 @@ returns g c =
     let m = c.args.message.now in
     let element = g.A.Artist.change_text in
     let line = returns_line m.action m.my_ref (task_name (g.S.Sight.desk c.args.sight.now) m.to) in
-    let on : back.returns c.args.step.now.kept.now.held m ≡ true = sym c.goes_back.ensures ∙ c.if-not-goes_back.false in
+    let on : back.returns c.args.step.now.kept.now.messages m ≡ true = sym c.goes_back.ensures ∙ c.if-not-goes_back.false in
     offered_as _ (ap element (c.message_returns.ensures.value ∙ ap (returns_line m.action m.my_ref) c.who_of-to.ensures)
     ∙ (sym (parts-one element line) ∙ sym (ap (λ b. flat_map element (if b then line ∷ [] else [])) on))) c.change.ensures

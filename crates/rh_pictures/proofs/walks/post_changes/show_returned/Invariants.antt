@@ -1,7 +1,6 @@
-use Rattle.rh_pictures.proofs.Common.{drop, ◌==◌, ◌&&◌, filter, map, flat_map, Parcel, is_returned, scene_at, return_lines}
+use Rattle.rh_pictures.proofs.Common.{drop, map, flat_map, scene_at, return_lines}
 use Rattle.rh_map.proofs.Left.{Left}
-use Rattle.rh_figure.specs.Changes.{returns_text}
-use Rattle.rh_figure.specs.Scene.{waiting}
+use Rattle.rh_figure.specs.Changes.{bouncing, returns_text}
 use Rattle.rh_pictures.proofs.walks.post_changes.show_returned.Given as goal
 
 -- the messages from the place on are left
@@ -10,5 +9,5 @@ invariant-loop-message g l =
     let d = g.S.Sight.desk l.sight in
     let x = scene_at d l.step in
     Left (g.P.Pen.offered l.initial.pen) (g.P.Pen.offered l.pen)
-    (flat_map g.A.Artist.change_text (map (returns_text x) (filter (λ (p : Parcel). p.message.my_ref == x.before.held && is_returned p.code) (waiting x))))
-    (flat_map g.A.Artist.change_text (flat_map (return_lines d l.step.kept.now.held) (drop l.message-index l.step.messages.now)))
+    (flat_map g.A.Artist.change_text (map (returns_text x) (bouncing x)))
+    (flat_map g.A.Artist.change_text (flat_map (return_lines d l.step.kept.now.messages) (drop l.message-index l.step.messages.now)))

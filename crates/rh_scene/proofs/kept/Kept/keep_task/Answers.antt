@@ -2,16 +2,25 @@ use Rattle.rh_scene.proofs.Common.{◌≡◌, ◌∙◌, Some, ap, sym, Desk, Ta
 use Rattle.rh_defs.specs.Desk.{next_ref}
 use Rattle.rh_defs.specs.Post.{held_by}
 use Rattle.rh_figure.specs.Scene.{Before, before_task, ref_of}
-use Rattle.rh_scene.specs.SightMessages.{held_ref}
+use Rattle.rh_scene.specs.SightMessages.{held_ref, message_items}
 use Rattle.rh_scene.proofs.Posts.{held-is}
 use Rattle.rh_scene.proofs.kept.Kept.keep_task.Goals as goal
 
 -- what is kept of a desk and a task
 with-task : (d : Desk) (t : Task) (b : Before) → b.handle ≡ t.handle → b.blocks ≡ block_items t.slot → b.held ≡ ref_of (held_by t.handle d.post.seats)
-    → b.holdings ≡ holdings d → b.free ≡ free_pages d → b.next_ref ≡ next_ref d → b ≡ before_task d (Some t)
-with-task d t b h k m x y z =
-    let same : Before = record { handle = b.handle; blocks = b.blocks; held = b.held; holdings = b.holdings; free = b.free; next_ref = b.next_ref } in
-    let made : same ≡ before_task d (Some t) = cc in
+    → b.size ≡ 0 → b.messages ≡ message_items d → b.holdings ≡ holdings d → b.free ≡ free_pages d → b.next_ref ≡ next_ref d → b ≡ before_task 0 d (Some t)
+with-task d t b h k m n p x y z =
+    let same : Before = record {
+      handle = b.handle;
+      blocks = b.blocks;
+      held = b.held;
+      size = b.size;
+      messages = b.messages;
+      holdings = b.holdings;
+      free = b.free;
+      next_ref = b.next_ref;
+    } in
+    let made : same ≡ before_task 0 d (Some t) = cc in
     made
 
 pub returns-in-Some : goal.returns-in-Some
@@ -25,4 +34,5 @@ returns-in-Some g c = λ t e.
     (c.held_ref-self-inside.ensures ∙ (ap (held_ref c.in-Some.task.handle) c.requires.messages
     ∙ (held-is (g.S.Sight.desk c.args.sight.now) c.recall_desk.ensures c.in-Some.task.handle
     ∙ ap (λ h. ref_of (held_by h (g.S.Sight.desk c.args.sight.now).post.seats)) handle)))
-    (ap (λ (x : Before). x.holdings) had) (ap (λ (x : Before). x.free) had) (ap (λ (x : Before). x.next_ref) had)
+    (ap (λ (x : Before). x.size) had) (ap (λ (x : Before). x.messages) had) (ap (λ (x : Before). x.holdings) had) (ap (λ (x : Before). x.free) had)
+    (ap (λ (x : Before). x.next_ref) had)

@@ -1,0 +1,25 @@
+use Rattle.rh_pictures.proofs.Common.{ap, flat_map, scene_at}
+use Rattle.rh_map.proofs.Left.{left_less, left_none}
+use Rattle.rh_pictures.specs.Inner.ReturnLines.{vanish_lines}
+use Rattle.rh_pictures.proofs.ElementLemmas.{items-at, items-end}
+use Rattle.rh_pictures.proofs.ReturnLemmas.{vanish-are}
+use Rattle.rh_pictures.proofs.TextPuts.{left_from}
+use Rattle.rh_pictures.proofs.walks.post_changes.show_each_vanished.Goals as goal
+
+pub loop-message-init : goal.loop-message-init
+loop-message-init g c =
+    let x = scene_at (g.S.Sight.desk c.args.sight.now) c.args.step.now in
+    left_from _ (ap (flat_map g.A.Artist.change_text) (vanish-are x c.args.messages.now))
+
+pub loop-message-preserved : goal.loop-message-preserved
+loop-message-preserved g c =
+    let of = vanish_lines (scene_at (g.S.Sight.desk c.args.sight.now) c.args.step.now) in
+    left_less _ c.loop-message.invariant (items-at g.A.Artist.change_text of c.args.messages.now c.loop-message.message-index
+    c.message-item.result c.loop-message-test.true c.message-item.is)
+    c.show_if_vanished.ensures
+
+pub returns : goal.returns
+returns g c =
+    let of = vanish_lines (scene_at (g.S.Sight.desk c.args.sight.now) c.args.step.now) in
+    left_none c.loop-message.invariant
+    (items-end g.A.Artist.change_text of c.args.messages.now c.loop-message.message-index c.loop-message-test.false)
