@@ -63,6 +63,8 @@ STATUSES = {
     22: ("TOO_MANY_AREAS", "32 made areas are live"),
     23: ("NO_NUMBERS", "the last number of a made area, 65535, was given"),
     24: ("TOO_BIG", "a made area would have more pages than it may"),
+    25: ("WRONG_MANNER", "the task has code of its own where it may not, or has none where it must"),
+    26: ("BAD_REF", "no message has the ref yet"),
     32: ("NULL", "a pointer is null"),
     33: ("BAD_LENGTH", "no heap has so many bytes: a multiple of 8, 16 to 1 GiB; or no slot; or no file"),
     34: ("SHORT", "the memory is shorter than what is in it, or than heap, map or text would be"),
@@ -111,16 +113,18 @@ CALLS = {
     "vf_desk_blocks": "ppzpzp", "vf_desk_heap": "ppzppzp", "vf_desk_status": "ppzppzppzp", "vf_desk_areas": "pppzp",
     "vf_desk_show_at": "ppzuupzp", "vf_desk_read": "ppzuupzp", "vf_desk_write": "ppzuupz",
     "vf_desk_rma_read": "puupzp", "vf_desk_rma_write": "puupz", "vf_desk_transfer": "puuuuu",
+    "vf_desk_take": "ppzpp", "vf_desk_send": "ppzuuuupzp", "vf_desk_ack": "ppzp", "vf_desk_transfer_to": "ppzuuuu",
+    "vf_desk_spool": "ppzuuup", "vf_desk_scrap": "ppzup",
     "vf_desk_line": "ppz", "vf_desk_reply": "ppzp",
 }
 KINDS = {"p": ctypes.c_void_p, "z": ctypes.c_size_t, "d": ctypes.c_ssize_t, "u": ctypes.c_uint32,
          "i": ctypes.c_int32, "b": ctypes.c_bool}
 
 ANCHORS = 64
-PLAIN, DEAF, FILE = range(3)
-MANNERS = ("", "deaf", "file")
+PLAIN, DEAF, FILE, RAW = range(4)
+MANNERS = ("", "deaf", "file", "raw")
 DID = ("nothing", "fetch", "send", "refuse", "fail", "drain", "take_last", "take", "take_and_fail", "ask", "save",
-       "load", "load_and_fail", "finish")
+       "load", "load_and_fail", "finish", "hand_out")
 STATES = ("open", "fetching", "draining", "asking", "done", "failed")
 
 Free = collections.namedtuple("Free", "most free")
@@ -649,7 +653,7 @@ class Desk:
         return "\n".join(filter(None, map(self.line, script.splitlines())))
 
     def task(self, name, buffer, manner=PLAIN):
-        """Wimp_Initialise: starts a task, PLAIN, DEAF or FILE, and tells its handle."""
+        """Wimp_Initialise: starts a task, PLAIN, DEAF, FILE or RAW, and tells its handle."""
         return self._tell("task", *_text(name), buffer, manner, line=("task", name, buffer, MANNERS[manner]))
 
     def kill(self, name):
@@ -669,9 +673,38 @@ class Desk:
 
     def next(self, name):
         """The message that the task's next poll would take, as its code and its block."""
+        return self._block("next", name)
+
+    def take(self, name):
+        """Wimp_Poll of a RAW task: takes its next message, and tells its code and its block."""
+        return self._block("take", name, line=("poll", name))
+
+    def _block(self, call, name, line=()):
         message, code = (ctypes.c_uint8 * 256)(), ctypes.c_uint32()
-        self._do("next", *_text(name), message, ctypes.byref(code))
+        self._do(call, *_text(name), message, ctypes.byref(code), line=line)
         return Message(code.value, bytes(message[:message[0] | message[1] << 8] if code.value else b""))
+
+    def send(self, name, code, to, your_ref, action, data=b""):
+        """Wimp_SendMessage of a RAW task: 17 or 18, to a task by its handle; tells the message's ref."""
+        words = ("send", name, code, to, your_ref, action, _text(data)[0].hex())
+        return self._tell("send", *_text(name), code, to, your_ref, action, *_text(data), line=words)
+
+    def ack(self, name):
+        """Wimp_SendMessage with 19 of a RAW task: the ref of the message that it held, 0 for none."""
+        return self._tell("ack", *_text(name), line=("ack", name))
+
+    def transfer_to(self, name, address, to, place, n):
+        """Wimp_TransferBlock of a RAW task: moves bytes to a place that another task opened."""
+        words = ("transfer", name, f"&{address:X}", to, f"&{place:X}", n)
+        self._do("transfer_to", *_text(name), address, to, place, n, line=words)
+
+    def spool(self, name, anchor, to, your_ref):
+        """Message_DataLoad of a RAW task: makes a block the scrap file, and tells the message's ref."""
+        return self._tell("spool", *_text(name), anchor, to, your_ref, line=("spool", name, anchor, to, your_ref))
+
+    def scrap(self, name, anchor):
+        """The address of a new block with the scrap file's bytes, whose message a RAW task holds."""
+        return self._tell("scrap", *_text(name), anchor, line=("scrap", name, anchor))
 
     def cancel_in(self, name, id=0):
         """Gives up a transfer that comes in, the first one for 0."""

@@ -172,7 +172,7 @@ static void arguments_have_forms(void)
     REFUSES(VF_BAD_ARGUMENT, vf_desk_task(&desk, VF_TEXT("a b"), 1, VF_TASK_PLAIN, &number_told));
     REFUSES(VF_BAD_ARGUMENT, vf_desk_task(&desk, A, 0, VF_TASK_PLAIN, &number_told));
     REFUSES(VF_BAD_ARGUMENT, vf_desk_task(&desk, A, 65537, VF_TASK_PLAIN, &number_told));
-    REFUSES(VF_BAD_ARGUMENT, vf_desk_task(&desk, A, 1, 3, &number_told));
+    REFUSES(VF_BAD_ARGUMENT, vf_desk_task(&desk, A, 1, 4, &number_told));
     REFUSES(VF_BAD_ARGUMENT, vf_desk_kill(&desk, NO_FORM));
     REFUSES(VF_BAD_ARGUMENT, vf_desk_save(&desk, A, 64, B, VF_TEXT("l"), &number_told));
     REFUSES(VF_BAD_ARGUMENT, vf_desk_save(&desk, A, 0, NO_FORM, VF_TEXT("l"), &number_told));

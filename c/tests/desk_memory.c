@@ -154,6 +154,25 @@ static void calls_on_transfers(void)
     BOTH(vf_desk_cancel_out(&desk, VF_TEXT("c"), 0), vf_desk_cancel_out(&desk, VF_TEXT("c"), 99));
 }
 
+/* A task with code of its own, e, which sends itself a message and a file. */
+static void calls_of_programs(void)
+{
+    struct vf_message message;
+    EXPECT(vf_desk_task(&desk, VF_TEXT("e"), 1, VF_TASK_RAW, &handle) == VF_OK);
+    EXPECT(vf_desk_alloc(&desk, VF_TEXT("e"), 0, 5000, &address) == VF_OK);
+    BOTH(vf_desk_send(&desk, VF_TEXT("e"), 18, handle, 0, 9, text, 236, &number),
+         vf_desk_send(&desk, VF_TEXT("e"), 18, handle, UINT32_MAX, 9, text, 236, &number));
+    BOTH(vf_desk_take(&desk, VF_TEXT("e"), &message, &number),
+         vf_desk_take(&desk, VF_TEXT("nobody"), &message, &number));
+    BOTH(vf_desk_ack(&desk, VF_TEXT("e"), &number), vf_desk_ack(&desk, VF_TEXT("d"), &number));
+    BOTH(vf_desk_spool(&desk, VF_TEXT("e"), 0, handle, 0, &number),
+         vf_desk_spool(&desk, VF_TEXT("e"), 0, handle, 0, &number));
+    EXPECT(vf_desk_take(&desk, VF_TEXT("e"), &message, &number) == VF_OK && number == 18);
+    BOTH(vf_desk_scrap(&desk, VF_TEXT("e"), 1, &number), vf_desk_scrap(&desk, VF_TEXT("e"), 1, &number));
+    EXPECT(vf_desk_transfer_to(&desk, VF_TEXT("e"), address, handle, address, 0) != VF_OK);
+    EXPECT(vf_desk_kill(&desk, VF_TEXT("e")) == VF_OK);
+}
+
 static void calls_on_areas(void)
 {
     BOTH(vf_desk_make(&desk, 3, &made), vf_desk_make(&desk, 0, &number));
@@ -201,6 +220,7 @@ int main(void)
     requests = 0;
     calls_on_memory();
     calls_on_transfers();
+    calls_of_programs();
     calls_on_areas();
     questions();
     work();

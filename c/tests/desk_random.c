@@ -52,15 +52,47 @@ static void some_line_on_a_slot(void)
 
 static void some_line_on_tasks(void)
 {
-    static const char *const manners[] = {"", "", " deaf", " file"};
+    static const char *const manners[] = {"", "", " deaf", " file", " raw", " raw"};
     switch (below(10)) {
-    case 0: snprintf(line, ROOM, "task %s %u%s", name(), 1 + below(300), manners[below(4)]); break;
+    case 0: snprintf(line, ROOM, "task %s %u%s", name(), 1 + below(300), manners[below(6)]); break;
     case 1: snprintf(line, ROOM, "kill %s", below(4) ? "none" : name()); break;
     case 2: snprintf(line, ROOM, "save %s %u %s Leaf%u", name(), below(6), name(), below(9)); break;
     case 3: snprintf(line, ROOM, "cancel %s %s", name(), below(2) ? "in" : "out"); break;
     case 4: snprintf(line, ROOM, "cancel %s %s %u", name(), below(2) ? "in" : "out", 1 + below(40)); break;
     case 5: snprintf(line, ROOM, "repeat %s", name()); break;
     default: snprintf(line, ROOM, "poll %s", name());
+    }
+}
+
+/* An address in the slot of a task: of its first flex block, or near the start of its C heap. */
+static unsigned slot_address(void) { return below(2) ? 0x9008 + below(20) : heap_address() + below(3); }
+
+/* A message of any action: of a transfer, with the numbers of a buffer or of a file, or any other. */
+static void some_send(void)
+{
+    int at = snprintf(line, sizeof line, "send %s %u %u %u ", name(), 17 + below(2), 1 + below(9), below(3) * below(30));
+    size_t room = sizeof line - (size_t)at;
+    switch (below(4)) {
+    case 0: snprintf(line + at, room, "6 %02x8100000%x000000", 0x14 + 8 * below(4), below(16)); break;
+    case 1: snprintf(line + at, room, "7 %02x8100000%x000000", 0x14 + 8 * below(4), below(16)); break;
+    case 2: snprintf(line + at, room, "%u %040x%08x6c656166%s", 1 + below(4), 0, 0xfd0f0000, below(3) ? "00000000" : "");
+        break;
+    default: snprintf(line + at, room, "%u%s", below(9), below(2) ? " 0123456789abcdef" : "");
+    }
+}
+
+static void some_line_of_programs(void)
+{
+    switch (below(8)) {
+    case 0: snprintf(line, ROOM, "ack %s", name()); break;
+    case 1: snprintf(line, ROOM, "read %s &%X %u", name(), slot_address(), below(9)); break;
+    case 2: snprintf(line, ROOM, "write %s &%X %02x%02x", name(), slot_address(), below(256), below(256)); break;
+    case 3: snprintf(line, ROOM, "spool %s %u %u %u", name(), below(6), 1 + below(9), below(30)); break;
+    case 4: snprintf(line, ROOM, "scrap %s %u", name(), below(6)); break;
+    case 5:
+        snprintf(line, ROOM, "transfer %s &%X %u &%X %u", name(), slot_address(), 1 + below(9), slot_address(), below(6));
+        break;
+    default: some_send();
     }
 }
 
@@ -83,10 +115,11 @@ static void some_other_line(void)
 
 static void some_line(void)
 {
-    switch (below(5)) {
+    switch (below(6)) {
     case 0:
     case 1: some_line_on_a_slot(); break;
     case 2: some_other_line(); break;
+    case 3: some_line_of_programs(); break;
     default: some_line_on_tasks();
     }
 }
@@ -102,6 +135,7 @@ static void run(void)
 {
     open_with_a_file(&by_lines);
     open_with_a_file(&by_calls);
+    forget_programs();
     for (int i = 0; i < RUN; i++) {
         some_line();
         both_answer_alike(&by_lines, &by_calls, line);

@@ -75,6 +75,7 @@ static void run_script(const char *folder, const char *path)
     int before = failures;
     open_as_said(folder, path, &by_lines);
     open_as_said(folder, path, &by_calls);
+    forget_programs();
     size_t n = read_into(beside(path, ".out"), wanted, sizeof wanted);
     script_len = read_into(path, script, sizeof script);
     /* A script with a zero byte, or whose end is cut off, is run by lines alone, by run_desk. */

@@ -9,18 +9,22 @@
 #include <stdlib.h>
 #include <string.h>
 
-enum { MOST_WORDS = 6, ROOM_OF_LINE = 1025, MOST_SHOWN = 1 << 22, MOST_SEGMENTS = 1 << 19, MOST_BLOCKS = 64 };
+enum { MOST_WORDS = 7, ROOM_OF_LINE = 1025, MOST_SHOWN = 1 << 22, MOST_SEGMENTS = 1 << 19, MOST_BLOCKS = 64 };
 enum { MOST_RECORDS = 8, MOST_AREAS = 70, ROOM_OF_TEXT = 1 << 24 };
 
 static const char *const REFUSALS[] = {
     NULL, "NameInUse", "NoName", "TooManyTasks", "NoHandles", "NoFile", "NoBlock", "AnchorInUse", "NotABlock",
     "NotYours", "Busy", "NotOpen", "NothingSent", "BadRange", "BadSize", "ExcessiveShrink", "NoTask", "NoRefs",
-    "QueueFull", "NoBudge", "NoRoom", "NoArea", "TooManyAreas", "NoNumbers", "TooBig",
+    "QueueFull", "NoBudge", "NoRoom", "NoArea", "TooManyAreas", "NoNumbers", "TooBig", "WrongManner", "BadRef",
 };
 static const char *const ACTIONS[] = {
     NULL, "DataSave", "DataSaveAck", "DataLoad", "DataLoadAck", NULL, "RAMFetch", "RAMTransmit",
 };
 static const char *const STATES[] = {"open", "fetching", "draining", "asking", "done", "failed"};
+
+/* The names of live tasks with code of their own, whose messages are taken by a call of their own. */
+enum { MOST_PROGRAMS = 32, ROOM_OF_NAME = 16 };
+static char programs[MOST_PROGRAMS][ROOM_OF_NAME];
 
 /* The text of a reply. */
 static char told[ROOM_OF_TEXT];
@@ -97,7 +101,32 @@ static void with_address(uint32_t status, const uint32_t *n)
         tell("ok &%X\n", (unsigned)*n);
 }
 
-static void tell_event(const struct vf_event *e)
+static uint32_t word_at(const uint8_t *bytes, size_t at)
+{
+    return bytes[at] | (uint32_t)bytes[at + 1] << 8 | (uint32_t)bytes[at + 2] << 16 | (uint32_t)bytes[at + 3] << 24;
+}
+
+/* Whether a message of this action with so much data is read as one of a transfer: a file's has a name that a 0 ends,
+ * one of a buffer two words. */
+static bool is_read(uint32_t action, const uint8_t *data, size_t n)
+{
+    if (action == 6 || action == 7)
+        return n >= 8;
+    return action >= 1 && action <= 4 && n >= 28 && memchr(data + 24, 0, n - 24);
+}
+
+/* The action of a message block: a name where it is read as one of a transfer, else its number. */
+static void tell_action(const struct vf_message *message)
+{
+    uint32_t length = word_at(message->bytes, 0), action = word_at(message->bytes, 16);
+    if (is_read(action, message->bytes + 20, length - 20))
+        tell("%s", ACTIONS[action]);
+    else
+        tell("%u", (unsigned)action);
+}
+
+/* What a poll did with the message that it took. */
+static void tell_event(const struct vf_event *e, const struct vf_message *message)
 {
     unsigned count = e->count, sent = e->sent;
     const char *refusal = e->refusal ? REFUSALS[e->refusal] : "";
@@ -105,7 +134,9 @@ static void tell_event(const struct vf_event *e)
         tell("ok 0\n");
         return;
     }
-    tell("ok %u %s %u %u ", (unsigned)e->code, ACTIONS[e->action], (unsigned)e->my_ref, (unsigned)e->your_ref);
+    tell("ok %u ", (unsigned)e->code);
+    tell_action(message);
+    tell(" %u %u ", (unsigned)e->my_ref, (unsigned)e->your_ref);
     switch (e->did) {
     case VF_DID_NOTHING: tell("ignored\n"); break;
     case VF_DID_FETCH: tell("fetch %u\n", sent); break;
@@ -123,6 +154,20 @@ static void tell_event(const struct vf_event *e)
     case VF_DID_FINISH: tell("done\n"); break;
     default: tell("?\n");
     }
+}
+
+/* A message that was handed to a task with code of its own. */
+static void tell_message(uint32_t code, const struct vf_message *message)
+{
+    const uint8_t *bytes = message->bytes;
+    uint32_t length = word_at(bytes, 0);
+    tell("ok %u ", (unsigned)code);
+    tell_action(message);
+    tell(" %u %u taken\n  from %u%s", (unsigned)word_at(bytes, 8), (unsigned)word_at(bytes, 12),
+         (unsigned)word_at(bytes, 4), length > 20 ? " " : "");
+    for (uint32_t i = 20; i < length; i++)
+        tell("%02x", bytes[i]);
+    tell("\n");
 }
 
 static void show(struct vf_desk *desk)
@@ -196,10 +241,53 @@ static void list_areas(struct vf_desk *desk)
             tell("  area %u %u\n", (unsigned)areas[i].number, (unsigned)areas[i].pages);
 }
 
+/* Where the name of a task with code of its own stands, or with no name a place for one more. */
+static char *program(const char *name)
+{
+    for (int i = 0; i < MOST_PROGRAMS; i++)
+        if (strcmp(programs[i], name) == 0)
+            return programs[i];
+    return NULL;
+}
+
+/* A new desk has no task. */
+static void forget_programs(void) { memset(programs, 0, sizeof programs); }
+
 static void do_task(struct vf_desk *desk)
 {
+    bool is_program = IS(3, "raw");
     uint32_t manner = IS(3, "deaf") ? VF_TASK_DEAF : IS(3, "file") ? VF_TASK_FILE : VF_TASK_PLAIN, handle;
-    with_number(vf_desk_task(desk, NAME(1), number(2), manner, &handle), &handle);
+    uint32_t status = vf_desk_task(desk, NAME(1), number(2), is_program ? (uint32_t)VF_TASK_RAW : manner, &handle);
+    char *place = status == VF_OK && is_program ? program("") : NULL;
+    if (place)
+        strcpy(place, word[1]);
+    with_number(status, &handle);
+}
+
+static void do_kill(struct vf_desk *desk)
+{
+    uint32_t status = vf_desk_kill(desk, NAME(1));
+    char *place = status == VF_OK ? program(word[1]) : NULL;
+    if (place)
+        *place = 0;
+    plain(status);
+}
+
+static void do_poll(struct vf_desk *desk)
+{
+    struct vf_event event;
+    struct vf_message message;
+    uint32_t code;
+    if (!program(word[1])) {
+        vf_desk_next(desk, NAME(1), &message, &code);
+        if (done(vf_desk_poll(desk, NAME(1), &event)))
+            tell_event(&event, &message);
+    } else if (done(vf_desk_take(desk, NAME(1), &message, &code))) {
+        if (code)
+            tell_message(code, &message);
+        else
+            tell("ok 0\n");
+    }
 }
 
 /* The commands on a slot; false where the line is none. */
@@ -237,18 +325,16 @@ static bool on_slot(struct vf_desk *desk)
 /* The commands on tasks, and what tasks send and take. */
 static bool on_tasks(struct vf_desk *desk)
 {
-    struct vf_event event;
     uint32_t n = 0;
     if (IS(0, "task"))
         do_task(desk);
     else if (IS(0, "kill"))
-        plain(vf_desk_kill(desk, NAME(1)));
+        do_kill(desk);
     else if (IS(0, "save"))
         with_number(vf_desk_save(desk, NAME(1), number(2), NAME(3), NAME(4), &n), &n);
-    else if (IS(0, "poll")) {
-        if (done(vf_desk_poll(desk, NAME(1), &event)))
-            tell_event(&event);
-    } else if (IS(0, "cancel") && IS(2, "in"))
+    else if (IS(0, "poll"))
+        do_poll(desk);
+    else if (IS(0, "cancel") && IS(2, "in"))
         plain(vf_desk_cancel_in(desk, NAME(1), words > 3 ? number(3) : 0));
     else if (IS(0, "cancel"))
         plain(vf_desk_cancel_out(desk, NAME(1), words > 3 ? number(3) : 0));
@@ -256,6 +342,38 @@ static bool on_tasks(struct vf_desk *desk)
         with_number(vf_desk_repeat(desk, NAME(1), &n), &n);
     else
         return false;
+    return true;
+}
+
+/* The commands of tasks with code of their own. */
+static bool on_programs(struct vf_desk *desk)
+{
+    uint8_t bytes[ROOM_OF_LINE / 2];
+    uint32_t n = 0;
+    size_t length;
+    if (IS(0, "send")) {
+        length = words > 6 ? bytes_of(6, bytes) : 0;
+        with_number(vf_desk_send(desk, NAME(1), number(2), number(3), number(4), number(5), bytes, length, &n), &n);
+    } else if (IS(0, "ack"))
+        with_number(vf_desk_ack(desk, NAME(1), &n), &n);
+    else if (IS(0, "transfer"))
+        plain(vf_desk_transfer_to(desk, NAME(1), address(2), number(3), address(4), number(5)));
+    else if (IS(0, "spool"))
+        with_number(vf_desk_spool(desk, NAME(1), number(2), number(3), number(4), &n), &n);
+    else if (IS(0, "scrap"))
+        with_address(vf_desk_scrap(desk, NAME(1), number(2), &n), &n);
+    else
+        return false;
+    return true;
+}
+
+/* Bytes by an address have no call: a line does it. */
+static bool by_line(struct vf_desk *desk, const char *line)
+{
+    if (!IS(0, "read") && !IS(0, "write"))
+        return false;
+    if (done(vf_desk_line(desk, VF_TEXT(line))))
+        done(vf_desk_reply(desk, (uint8_t *)told, sizeof told, &told_len));
     return true;
 }
 
@@ -299,7 +417,7 @@ static void do_by_call(struct vf_desk *desk, const char *line)
 {
     told_len = 0;
     find_words(line);
-    if (!on_slot(desk) && !on_tasks(desk) && !on_areas(desk))
+    if (!on_slot(desk) && !on_tasks(desk) && !on_programs(desk) && !by_line(desk, line) && !on_areas(desk))
         ask(desk);
 }
 

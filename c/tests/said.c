@@ -25,20 +25,21 @@ static void statuses_have_texts(void)
 {
     uint32_t status, other, texts = 0;
     for (status = 0; status < 64; status++) {
-        int is_status = status <= VF_TOO_BIG || (status >= VF_NULL && status <= VF_BAD_MESSAGE);
+        int is_status = status <= VF_BAD_REF || (status >= VF_NULL && status <= VF_BAD_MESSAGE);
         EXPECT(is_status == (strcmp(vf_status_text(status), "no status has this number") != 0));
         texts += is_status ? 1 : 0;
         for (other = 0; is_status && other < status; other++)
             EXPECT(strcmp(vf_status_text(status), vf_status_text(other)) != 0);
     }
-    EXPECT(texts == 44);
+    EXPECT(texts == 46);
     IS_SAID(VF_OK, "all was done");
     IS_SAID(VF_NAME_IN_USE, "a live task has the name");
     IS_SAID(VF_BAD_RANGE, "bytes lie outside the block");
     IS_SAID(VF_NULL, "a pointer is null");
     IS_SAID(VF_FILE_EXISTS, "a file with the name was added before");
     IS_SAID(VF_BAD_MESSAGE, "the action of the message is none of a file or a RAM transfer");
-    IS_SAID(25, "no status has this number");
+    IS_SAID(VF_BAD_REF, "no message has the ref yet");
+    IS_SAID(27, "no status has this number");
     IS_SAID(UINT32_MAX, "no status has this number");
 }
 

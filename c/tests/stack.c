@@ -207,6 +207,19 @@ static void desk_bytes(void)
     vf_desk_rma_write(&desk, told, 1, bytes, 99);
     vf_desk_rma_read(&desk, told, 1, bytes, 99, &told);
 }
+static void desk_programs(void)
+{
+    vf_desk_task(&desk, VF_TEXT("raw"), 1, VF_TASK_RAW, &told);
+    vf_desk_alloc(&desk, VF_TEXT("raw"), 0, 5000, &told);
+    vf_desk_send(&desk, VF_TEXT("raw"), 18, 3, 0, 6, bytes, 236, &told);
+    vf_desk_take(&desk, VF_TEXT("raw"), &message, &told);
+    vf_desk_transfer_to(&desk, VF_TEXT("raw"), 0x9008, 1, 0x8114, 1);
+    vf_desk_ack(&desk, VF_TEXT("raw"), &told);
+    vf_desk_spool(&desk, VF_TEXT("raw"), 0, 3, 0, &told);
+    vf_desk_take(&desk, VF_TEXT("raw"), &message, &told);
+    vf_desk_scrap(&desk, VF_TEXT("raw"), 1, &told);
+    vf_desk_kill(&desk, VF_TEXT("raw"));
+}
 static void desk_line(void) { vf_desk_line(&desk, VF_TEXT("areas")); }
 static void desk_next(void) { vf_desk_next(&desk, B, &message, &told); }
 static void desk_heap_reply(void)
@@ -241,6 +254,7 @@ static const struct { const char *name; void (*call)(void); size_t most; } CALLS
     {"desk flex", desk_flex, COMMAND},       {"desk heaps", desk_heaps, COMMAND},
     {"desk areas", desk_areas, COMMAND},     {"desk transfer", desk_transfer, COMMAND},
     {"desk questions", desk_questions, COMMAND}, {"desk bytes", desk_bytes, COMMAND},
+    {"desk programs", desk_programs, COMMAND},
     {"desk line", desk_line, COMMAND},       {"desk next", desk_next, QUESTION},
     {"desk reply", desk_reply, QUESTION},    {"desk reply to heap", desk_heap_reply, COMMAND},
     {"desk kill", desk_kill, COMMAND},       {"desk close", desk_close, QUESTION},
@@ -280,6 +294,7 @@ static void desk_calls(void)
     desk_transfer();
     desk_questions();
     desk_bytes();
+    desk_programs();
     desk_line();
     desk_next();
     desk_reply();
@@ -287,7 +302,7 @@ static void desk_calls(void)
     desk_kill();
 }
 
-/* A desk from its first file to its end: all 28 commands, and the calls beside them. */
+/* A desk from its first file to its end: all commands, and the calls beside them. */
 static void desk_whole(void)
 {
     desk_file();

@@ -1,6 +1,6 @@
 -- A call with a command, from what the step under it says.
 use Rattle.vf_desk.proofs.Common.{◌≡◌, ℕ, Bool, true, false, sym, ap, subst, ◌∙◌, ◌≢◌, if◌then◌else◌, Option, Some, None, Command, Question, Desk, in_range}
-use Rattle.vf_desk.proofs.Common.{CallOutcome, IsAsked, called, desk_by, in_form, status_of, KeepsRest}
+use Rattle.vf_desk.proofs.Common.{CallOutcome, IsAsked, called, desk_by, in_form, status_of, KeepsRest, SeenBy, console_in}
 use Rattle.rh_defs.specs.declared.command.Command.TheVariants as command
 use Rattle.vf_desk.specs.declared.desk.VfDesk.{VfDesk}
 use Rattle.vf_desk.specs.CallOutcome.{Asks, DoesCalled}
@@ -37,4 +37,14 @@ pub asks : {q : Question} {form : Option Command} {old new : VfDesk} {said : Cal
 asks {q} {old = old} same says stays told = record {
   status_is = told_by old same says status_of told;
   same = stays (subst IsAsked (sym same) (question-asked q));
+}
+
+-- a call that does a command on a desk that was looked at before
+pub behind_look : {command : Option Command} {old seen new : VfDesk} {status : ℕ} → seen.handle.open_desk ≡ old.handle.open_desk
+    → DoesCalled command seen new status → DoesCalled command old new status
+behind_look {command} {old} {seen} {new} {status} same d = record {
+  status_is = λ s looks. d.status_is s (subst (λ h. SeenBy (console_in h) s) (sym same) looks);
+  desk = λ s looks. d.desk s (subst (λ h. SeenBy (console_in h) s) (sym same) looks);
+  rest = subst (λ h. KeepsRest h new.handle.open_desk) same d.rest;
+  refused = λ bad. d.refused bad ∙ same;
 }

@@ -96,3 +96,34 @@ module _ (name bytes : List ℕ) (anchor offset : ℕ) where
       → in_range (command.Put name anchor offset bytes) ≡ true
   unfolding in_range
   put-good a b c d = rw (a, b, size-of offset true c, d) refl
+
+-- ---- commands of arguments that are read as others are
+
+-- what is no part of a command by its last test
+pub last-fails : (a : Bool) → (a && false) ≡ false
+last-fails true = refl
+last-fails false = refl
+
+-- two names that read the same, in a command that is out of range with what is no name
+pub by-name : (C : List ℕ → Command) (n bytes : List ℕ) → name_read n ≡ name_read bytes
+    → ((m : List ℕ) → is_name m ≡ false → in_range (C m) ≡ false) → in_form (C n) ≡ in_form (C bytes)
+by-name C n bytes same bad = go (is_name n) (is_name bytes) refl refl same
+  where
+    go : (b d : Bool) → is_name n ≡ b → is_name bytes ≡ d → (if b then Some n else None) ≡ (if d then Some bytes else None)
+        → in_form (C n) ≡ in_form (C bytes)
+    go true true p q e = let is : n ≡ bytes = cc in ap (λ m. in_form (C m)) is
+    go true false p q e = absurd (cc)
+    go false true p q e = absurd (cc)
+    go false false p q e = sym (out-of-form (C n) (bad n p)) ∙ out-of-form (C bytes) (bad bytes q)
+
+-- the same of anchors
+pub by-anchor : (C : ℕ → Command) (k anchor : ℕ) → anchor_in k ≡ anchor_in anchor
+    → ((m : ℕ) → is_of Anchor m ≡ false → in_range (C m) ≡ false) → in_form (C k) ≡ in_form (C anchor)
+by-anchor C k anchor same bad = go (is_anchor k) (is_anchor anchor) refl refl same
+  where
+    go : (b d : Bool) → is_anchor k ≡ b → is_anchor anchor ≡ d → (if b then Some k else None) ≡ (if d then Some anchor else None)
+        → in_form (C k) ≡ in_form (C anchor)
+    go true true p q e = let is : k ≡ anchor = cc in ap (λ m. in_form (C m)) is
+    go true false p q e = absurd (cc)
+    go false true p q e = absurd (cc)
+    go false false p q e = sym (out-of-form (C k) (bad k (anchor-of k false p))) ∙ out-of-form (C anchor) (bad anchor (anchor-of anchor false q))

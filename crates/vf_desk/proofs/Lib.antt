@@ -1,5 +1,4 @@
 mod FreshLaws
-mod PenLaws
 mod PrintLaws
 mod SaidLaws
 pub mod Pairs

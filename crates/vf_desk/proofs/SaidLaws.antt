@@ -1,5 +1,6 @@
 -- Texts of what lines are answered, over desks that a world may be seen as.
-use Rattle.std.proofs.Common.{◌≡◌, ℕ, List, refl, sym, ap, subst, ◌∙◌}
+use Rattle.std.proofs.Common.{◌≡◌, ℕ, List, ◌++◌, append-nil, refl, sym, ap, subst, ◌∙◌}
+use Rattle.std.specs.Option.{option_map}
 use Rattle.std.specs.Prelude.{true, Option, Some, None, Ok, Err}
 use Rattle.rh_defs.specs.declared.command.Command.{Command}
 use Rattle.rh_defs.specs.declared.command.Command.TheVariants as command
@@ -12,6 +13,11 @@ use Rattle.rh_defs.specs.Order.{IsReordered}
 use Rattle.rh_defs.specs.Range.{can_be_asked}
 use Rattle.rh_defs.specs.Script.{line_desk, line_text, meaning_desk, meaning_text}
 use Rattle.rh_defs.specs.Commands.{step}
+use Rattle.rh_defs.specs.Messages.{Parcel}
+use Rattle.rh_defs.specs.Questions.{Nothing}
+use Rattle.rh_defs.specs.RawTasks.{handed_parts}
+use Rattle.rh_defs.specs.Text.{first_line, handed_text, taken_of, with_taken}
+use Rattle.rh_defs.proofs.HandedLaws.{taken-alike}
 use Rattle.rh_defs.proofs.QuestionLaws.{asked-stays, one-line, question-text}
 use Rattle.rh_tasks.specs.Answer.{StepsTo}
 use Rattle.vf_desk.specs.Said.{said_text}
@@ -37,13 +43,21 @@ answers-question old q ranged = record {
   text = λ d seen. ap (λ (e : Desk). said_text e (said.Told q)) (asked-stays d q) ∙ sym (question-text d q ranged);
 }
 
--- any other command is answered in one line
-pub answers-command : (old new : Desk) (c : Command) (r : Reply) → ((q : Question) → c ≡ command.Ask q → ⊥)
-    → StepsTo c old new r → Answers (Ok (Some c)) old new (said.Reply r)
-answers-command old new c r other steps = record {
+with-handed : (text : List ℕ) (o : Option Parcel) → text ++ handed_text (option_map handed_parts o) ≡ with_taken text o
+with-handed text None = append-nil text
+with-handed text (Some p) = refl
+
+-- any other command is answered in one line, and one more for a message that it hands out
+pub answers-command : (old new : Desk) (c : Command) (r : Reply) (handed : Option (ℕ × List ℕ)) (kept : Said) → ((q : Question) → c ≡ command.Ask q → ⊥)
+    → StepsTo c old new r → handed ≡ option_map handed_parts (taken_of old c)
+    → ((d : Desk) → said_text d kept ≡ first_line r Nothing ++ handed_text handed) → Answers (Ok (Some c)) old new kept
+answers-command old new c r handed kept other steps taken said_is = record {
   desk = λ d seen. (steps d seen).1;
   text = λ d seen.
-      ap (λ (s : Reply). said_text (step d c).0 (said.Reply s)) (sym (steps d seen).0) ∙ sym (one-line (step d c).0 c (step d c).1 other);
+      said_is (step d c).0 ∙ ap (λ (s : Reply). first_line s Nothing ++ handed_text handed) (sym (steps d seen).0)
+      ∙ ap (λ h. first_line (step d c).1 Nothing ++ handed_text h) (taken ∙ ap (option_map handed_parts) (taken-alike seen c))
+      ∙ with-handed (first_line (step d c).1 Nothing) (taken_of d c)
+      ∙ ap (λ t. with_taken t (taken_of d c)) (sym (one-line (step d c).0 c (step d c).1 other));
 }
 
 -- the same of what is equal

@@ -61,9 +61,13 @@ steps-done c {old} {new} {r} steps refused asked = record {
 pub steps-bad : (c : Command) (world : Shown) → in_range c ≡ false → Steps (in_form c) world world BadArgument
 steps-bad c world bad = subst (λ f. Steps f world world BadArgument) (out-of-form c bad) (steps-none world)
 
+pub steps-ranged : (c : Command) {old new : Shown} {r : Reply} → in_range c ≡ true → StepsTo c old.desk new.desk r → StaysIfRefused old new r
+    → StaysIfAsked c old new → Steps (in_form c) old new (Said r)
+steps-ranged c {old} {new} {r} good steps refused asked =
+    subst (λ f. Steps f old new (Said r)) (in-its-form c good) (steps-done c steps refused asked)
+
 pub steps-good : (c : Command) {old new : Shown} {r : Reply} → in_range c ≡ true → Does c old new r → Steps (in_form c) old new (Said r)
-steps-good c {old} {new} {r} good does =
-    subst (λ f. Steps f old new (Said r)) (in-its-form c good) (steps-done c does.steps does.refused does.asked)
+steps-good c good does = steps-ranged c good does.steps does.refused does.asked
 
 -- ---- a open desk that has been left as it was
 

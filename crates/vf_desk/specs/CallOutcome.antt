@@ -79,6 +79,7 @@ only_or numbers old = only_of (each_of numbers) old
 abbrev pub number_or : CallOutcome → ℕ → ℕ
 number_or (Said (reply.Started handle)) old = handle
 number_or (Said (reply.Sent ref)) old = ref
+number_or (Said (reply.Answering ref)) old = ref
 number_or (Said (reply.Block address)) old = address
 number_or (Said (reply.Moved bytes)) old = bytes
 number_or (Said (reply.Made number)) old = number

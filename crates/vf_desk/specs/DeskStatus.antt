@@ -29,6 +29,8 @@ refusal_number refusal.NoArea = 21
 refusal_number refusal.TooManyAreas = 22
 refusal_number refusal.NoNumbers = 23
 refusal_number refusal.TooBig = 24
+refusal_number refusal.WrongManner = 25
+refusal_number refusal.BadRef = 26
 
 -- a file has more than 1 MiB
 abbrev pub bad_length : ℕ

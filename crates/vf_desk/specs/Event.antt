@@ -37,6 +37,7 @@ deed_of ack (outcome.Saved count load) = deed_with 10 count load 0
 deed_of ack (outcome.Loaded count) = deed_with 11 count ack 0
 deed_of ack (outcome.LoadedFailed count refusal) = deed_with 12 count 0 (refusal_number refusal)
 deed_of ack outcome.Done = deed_with 13 0 0 0
+deed_of ack outcome.Taken = deed_with 14 0 0 0
 
 -- the event of these first words, and of a deed
 abbrev pub event_with : ℕ → ℕ → ℕ → ℕ → EventDeed → VfEvent

@@ -14,4 +14,3 @@ pub mod Next
 pub mod Opening
 pub mod Said
 pub mod SeenDesk
-pub mod TextPens

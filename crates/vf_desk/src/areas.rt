@@ -6,7 +6,6 @@ ghost use Rattle.vf_desk.specs.CallOutcome.{DoesCalled, called, in_form, number_
 ghost use Rattle.vf_desk.specs.SeenDesk.{IsSeenDesk};
 
 use crate::desk::VfDesk;
-use crate::forms::checked;
 use rh_defs::Command;
 use std::alloc::Global;
 
@@ -23,8 +22,8 @@ pub extern "C" fn vf_desk_area(
     ensures bytes { (s : Option Desk) → IsSeenDesk desk.old s →
         bytes.new ≡ number_or (called s (in_form (Command.Area number delta))) bytes.old }
 {
-    let command = checked(Command::Area { number, delta });
-    desk.step(alloc, &command).give_number(bytes)
+    desk.step(alloc, &Command::Area { number, delta })
+        .give_number(bytes)
 }
 
 /// Makes an area of no page, and of at most `most` pages, and tells its number. (OS_DynamicArea 0.)
@@ -34,8 +33,8 @@ pub extern "C" fn vf_desk_make(alloc: Global, desk: &mut VfDesk, most: u32, numb
     ensures number { (s : Option Desk) → IsSeenDesk desk.old s →
         number.new ≡ number_or (called s (in_form (Command.Make most))) number.old }
 {
-    let command = checked(Command::Make { most });
-    desk.step(alloc, &command).give_number(number)
+    desk.step(alloc, &Command::Make { most })
+        .give_number(number)
 }
 
 /// Takes a made area away; its pages are free then. (OS_DynamicArea 1.)
@@ -43,8 +42,7 @@ pub extern "C" fn vf_desk_make(alloc: Global, desk: &mut VfDesk, most: u32, numb
 pub extern "C" fn vf_desk_remove(alloc: Global, desk: &mut VfDesk, number: u32) -> u32
     ensures { DoesCalled (in_form (Command.Remove number)) desk.old desk.new result }
 {
-    let command = checked(Command::Remove { number });
-    desk.step(alloc, &command).status()
+    desk.step(alloc, &Command::Remove { number }).status()
 }
 
 /// Claims a block of `size` bytes at least of the module area, all 0, and tells its address. (OS_Module 6.)
@@ -59,8 +57,8 @@ pub extern "C" fn vf_desk_rma_claim(
     ensures address { (s : Option Desk) → IsSeenDesk desk.old s →
         address.new ≡ number_or (called s (in_form (Command.RmaClaim size))) address.old }
 {
-    let command = checked(Command::RmaClaim { size });
-    desk.step(alloc, &command).give_number(address)
+    desk.step(alloc, &Command::RmaClaim { size })
+        .give_number(address)
 }
 
 /// Frees the block at an address of the module area. (OS_Module 7.)
@@ -68,8 +66,7 @@ pub extern "C" fn vf_desk_rma_claim(
 pub extern "C" fn vf_desk_rma_free(alloc: Global, desk: &mut VfDesk, address: u32) -> u32
     ensures { DoesCalled (in_form (Command.RmaFree address)) desk.old desk.new result }
 {
-    let command = checked(Command::RmaFree { address });
-    desk.step(alloc, &command).status()
+    desk.step(alloc, &Command::RmaFree { address }).status()
 }
 
 /// Gives the block at an address of the module area `delta` bytes more, and tells where it is then. (OS_Module 13.)
@@ -85,6 +82,6 @@ pub extern "C" fn vf_desk_rma_resize(
     ensures address { (s : Option Desk) → IsSeenDesk desk.old s →
         moved_to.new ≡ number_or (called s (in_form (Command.RmaResize address delta))) moved_to.old }
 {
-    let command = checked(Command::RmaResize { address, delta });
-    desk.step(alloc, &command).give_number(moved_to)
+    desk.step(alloc, &Command::RmaResize { address, delta })
+        .give_number(moved_to)
 }

@@ -37,7 +37,9 @@ impl CallOutcome {
     {
         match self {
             CallOutcome::Said(Reply::Started(handle)) => *number = handle.0,
-            CallOutcome::Said(Reply::Sent(r)) => *number = r.0,
+            CallOutcome::Said(Reply::Sent(r)) | CallOutcome::Said(Reply::Answering(r)) => {
+                *number = r.0;
+            }
             CallOutcome::Said(Reply::Block { address }) => *number = *address,
             CallOutcome::Said(Reply::Moved { bytes }) => *number = *bytes,
             CallOutcome::Said(Reply::Made { number: made }) => *number = *made,

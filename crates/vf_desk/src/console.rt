@@ -4,14 +4,15 @@ ghost use Rattle.rh_defs.specs.Desk.{Desk};
 ghost use Rattle.rh_defs.specs.Order.{IsReordered};
 ghost use Rattle.rh_defs.specs.Range.{in_range};
 ghost use Rattle.rh_defs.specs.Script.{line_desk, line_text, meaning_desk, meaning_text};
+ghost use Rattle.rh_defs.specs.Questions.{Nothing};
+ghost use Rattle.rh_defs.specs.Text.{first_line, handed_text};
 ghost use Rattle.rh_lines.specs.WholeText.{filled};
 ghost use Rattle.vf_desk.specs.Said.{said_text};
 ghost use Rattle.vf_desk.specs.Console.{Prints};
 
 use crate::desk_files::DeskFiles;
 use crate::said::Said;
-use crate::text_pen::{Text, TextPen};
-use rh_defs::{Command, Question};
+use rh_defs::{Command, Data, Handle, Question, Reply};
 use rh_heap_index::PageStore;
 use rh_lines::{WholeText, read_line};
 use rh_tasks::World;
@@ -56,7 +57,11 @@ impl Console {
             Command::Ask(question) => {
                 self.said = Said::Told(mem::replace(question, Question::Areas));
             }
-            _ => self.said = Said::Reply(self.world.apply(&self.command)),
+            _ => {
+                let handed = self.world.handed(&self.command);
+                let reply = self.world.apply(&self.command);
+                self.said = said_of(reply, handed);
+            }
         }
     }
 
@@ -69,17 +74,8 @@ impl Console {
             to.new ≡ filled (said_text d self.now.said) to.old }
     {
         let mut text = WholeText::new(to);
-        self.print_into(&mut text);
+        self.said.put(&self.world, &mut text);
         text.length()
-    }
-
-    /// Writes the text of what the last line was answered, over the desk as it is now.
-    fn print_into<T: Text>(&self, text: &mut T)
-        ensures { (d : Desk) → IsReordered d self.now.world.desk →
-            T.content text.new ≡ T.content text.old ++ said_text d self.now.said }
-    {
-        let mut pen = TextPen::new(text);
-        self.said.put(&self.world, &mut pen);
     }
 
     /// Does what `print` does. Where the text has room in what is held, it is printed once, and copied from there.
@@ -108,6 +104,16 @@ impl Console {
             Some(text) => put_whole(text, to),
             None => self.print_by(held, to),
         }
+    }
+}
+
+/// What is said of a reply, and of a message that was handed out with it.
+fn said_of(reply: Reply, handed: Option<(Handle, Data)>) -> Said
+    ensures { (d : Desk) → said_text d result ≡ first_line reply Nothing ++ handed_text handed }
+{
+    match handed {
+        Some((from, data)) => Said::Handed { reply, from, data },
+        None => Said::Reply(reply),
     }
 }
 

@@ -50,6 +50,9 @@ pub const DID_LOAD_AND_FAIL: u32 = 12;
 /// The recipient has loaded the file: the transfer that went out is done.
 pub const DID_FINISH: u32 = 13;
 
+/// The message was handed to a task with code of its own.
+pub const DID_HAND_OUT: u32 = 14;
+
 /// What a poll took and did. A field that the deed says nothing of is 0, and all are where there was no message.
 #[repr(C)]
 #[derive(Clone, Copy)]
@@ -137,6 +140,7 @@ fn done_with(outcome: &Outcome, ack: u32) -> EventDeed
             EventDeed::refused(DID_LOAD_AND_FAIL, *count, *refusal)
         }
         Outcome::Done => EventDeed::plain(DID_FINISH),
+        Outcome::Taken => EventDeed::plain(DID_HAND_OUT),
     }
 }
 

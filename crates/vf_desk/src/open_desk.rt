@@ -1,7 +1,6 @@
 //! What a handle has: files, and the desk where it is open.
-ghost use Rattle.std.specs.Prelude.{◌≡◌, ◌≢◌, true, Option, Some, None, IfSome};
+ghost use Rattle.std.specs.Prelude.{◌≡◌, ◌≢◌, Option, Some, None};
 ghost use Rattle.rh_defs.specs.Desk.{Desk};
-ghost use Rattle.rh_defs.specs.Range.{in_range};
 ghost use Rattle.rh_defs.specs.declared.command.Command.TheVariants as Command;
 ghost use Rattle.vf_desk.specs.CallOutcome.{IsAsked, called, desk_by, in_form, status_of};
 ghost use Rattle.vf_desk.specs.Event.{next_ref_in};
@@ -25,14 +24,14 @@ pub struct OpenDesk {
 }
 
 impl OpenDesk {
-    /// Does a command on the desk, if it is open and there is one; else nothing changes.
-    pub fn step(&mut self, command: &Option<Command>) -> CallOutcome
-        requires { IfSome command.now (λ c. in_range c ≡ true) }
-        ensures said { (s : Option Desk) → SeenBy self.old.console s → result ≡ called s command.now }
-        ensures desk { (s : Option Desk) → SeenBy self.old.console s → SeenBy self.new.console (desk_by s command.now) }
+    /// Does a command on the desk, if it is open and the command in range; else nothing changes.
+    pub fn step(&mut self, command: &Command) -> CallOutcome
+        ensures said { (s : Option Desk) → SeenBy self.old.console s → result ≡ called s (in_form command.now) }
+        ensures desk { (s : Option Desk) → SeenBy self.old.console s →
+            SeenBy self.new.console (desk_by s (in_form command.now)) }
         ensures rest { KeepsRest (Some self.old) (Some self.new) }
         ensures refused { status_of result ≢ 0 → self.new ≡ self.old }
-        ensures asked { IsAsked command.now → self.new ≡ self.old }
+        ensures asked { IsAsked (in_form command.now) → self.new ≡ self.old }
     {
         match &mut self.console {
             Some(console) => step_world(&mut console.world, command),
@@ -70,14 +69,14 @@ impl OpenDesk {
     }
 }
 
-/// Does a command on a world, if there is one.
-fn step_world(world: &mut PagedWorld, command: &Option<Command>) -> CallOutcome
-    requires { IfSome command.now (λ c. in_range c ≡ true) }
-    ensures { Steps command.now world.old world.new result }
+/// Does a command on a world, if it is in range.
+fn step_world(world: &mut PagedWorld, command: &Command) -> CallOutcome
+    ensures { Steps (in_form command.now) world.old world.new result }
 {
-    match command {
-        Some(command) => CallOutcome::Said(world.apply(command)),
-        None => CallOutcome::BadArgument,
+    if command.in_range() {
+        CallOutcome::Said(world.apply(command))
+    } else {
+        CallOutcome::BadArgument
     }
 }
 

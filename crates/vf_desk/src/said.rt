@@ -4,8 +4,8 @@ ghost use Rattle.rh_defs.specs.Desk.{Desk};
 ghost use Rattle.rh_defs.specs.Order.{IsReordered};
 ghost use Rattle.vf_desk.specs.Said.{said_text};
 
-use rh_defs::{LineFault, Question, Reply};
-use rh_lines::{Pen, put_fault, put_first_line};
+use rh_defs::{Data, Handle, LineFault, Question, Reply};
+use rh_lines::{Pen, put_fault, put_first_line, put_handed_line, refused_line};
 use rh_script::put_answer;
 use rh_store::Store;
 use rh_tasks::{NamedFiles, World};
@@ -19,6 +19,12 @@ pub enum Said {
     Fault(LineFault),
     /// The reply to a command.
     Reply(Reply),
+    /// The reply to a command that handed out a message: its sender's handle, and its data.
+    Handed {
+        reply: Reply,
+        from: Handle,
+        data: Data,
+    },
     /// What the desk answers to this question.
     Told(Question),
 }
@@ -32,6 +38,7 @@ impl Said {
         match self {
             Said::Nothing => Some(b""),
             Said::Reply(Reply::Done) => Some(b"ok\n"),
+            Said::Reply(Reply::Refused(refusal)) => Some(refused_line(*refusal)),
             Said::Reply(Reply::NoEvent) => Some(b"ok 0\n"),
             Said::Reply(Reply::WasBudging(true)) => Some(b"ok on\n"),
             Said::Reply(Reply::WasBudging(false)) => Some(b"ok off\n"),
@@ -48,6 +55,10 @@ impl Said {
             Said::Nothing => {}
             Said::Fault(fault) => put_fault(fault, pen),
             Said::Reply(reply) => put_first_line(reply, pen),
+            Said::Handed { reply, from, data } => {
+                put_first_line(reply, pen);
+                put_handed_line(*from, data.as_slice(), pen);
+            }
             Said::Told(question) => put_answer(world, question, pen),
         }
     }

@@ -79,6 +79,12 @@ pub const NO_NUMBERS: u32 = 23;
 /// A made area would have more pages than it may.
 pub const TOO_BIG: u32 = 24;
 
+/// The task has code of its own where it may not, or has none where it must.
+pub const WRONG_MANNER: u32 = 25;
+
+/// No message has the ref yet.
+pub const BAD_REF: u32 = 26;
+
 /// A file has more than 1 MiB.
 pub const BAD_LENGTH: u32 = 33;
 
@@ -129,5 +135,7 @@ pub fn refusal_number(refusal: Refusal) -> u32
         Refusal::TooManyAreas => TOO_MANY_AREAS,
         Refusal::NoNumbers => NO_NUMBERS,
         Refusal::TooBig => TOO_BIG,
+        Refusal::WrongManner => WRONG_MANNER,
+        Refusal::BadRef => BAD_REF,
     }
 }

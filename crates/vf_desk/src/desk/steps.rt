@@ -1,8 +1,7 @@
 //! What is done on a desk that a program in C holds: its open desk is taken out, and put back.
-ghost use Rattle.std.specs.Prelude.{◌≡◌, ◌≢◌, true, Option, Some, None, IfSome};
+ghost use Rattle.std.specs.Prelude.{◌≡◌, ◌≢◌, Option, Some, None};
 ghost use Rattle.std.specs.Option.{option_map};
 ghost use Rattle.rh_defs.specs.Desk.{Desk};
-ghost use Rattle.rh_defs.specs.Range.{in_range};
 ghost use Rattle.rh_defs.specs.declared.command.Command.TheVariants as Command;
 ghost use Rattle.vf_desk.specs.CallOutcome.{IsAsked, called, desk_by, in_form, status_of};
 ghost use Rattle.vf_desk.specs.Event.{next_ref_in};
@@ -52,14 +51,14 @@ impl VfDesk {
         handle.end();
     }
 
-    /// Does a command on the desk, if it is open and there is one; else nothing changes.
-    pub fn step(&mut self, alloc: Global, command: &Option<Command>) -> CallOutcome
-        requires { IfSome command.now (λ c. in_range c ≡ true) }
-        ensures said { (s : Option Desk) → IsSeenDesk self.old s → result ≡ called s command.now }
-        ensures desk { (s : Option Desk) → IsSeenDesk self.old s → IsSeenDesk self.new (desk_by s command.now) }
+    /// Does a command on the desk, if it is open and the command in range; else nothing changes.
+    pub fn step(&mut self, alloc: Global, command: &Command) -> CallOutcome
+        ensures said { (s : Option Desk) → IsSeenDesk self.old s → result ≡ called s (in_form command.now) }
+        ensures desk { (s : Option Desk) → IsSeenDesk self.old s →
+            IsSeenDesk self.new (desk_by s (in_form command.now)) }
         ensures rest { KeepsRest self.old.handle.open_desk self.new.handle.open_desk }
         ensures refused { status_of result ≢ 0 → self.new.handle.open_desk ≡ self.old.handle.open_desk }
-        ensures asked { IsAsked command.now → self.new.handle.open_desk ≡ self.old.handle.open_desk }
+        ensures asked { IsAsked (in_form command.now) → self.new.handle.open_desk ≡ self.old.handle.open_desk }
     {
         let Some(mut open_desk) = self.take(alloc) else {
             return CallOutcome::Closed;
@@ -71,11 +70,11 @@ impl VfDesk {
 
     /// Does a command as `step` does, and tells the ref of the message that would be sent next before it: 0 on a closed
     /// desk, or where no ref is left.
-    pub fn step_sending(&mut self, alloc: Global, command: &Option<Command>) -> (CallOutcome, u32)
-        requires { IfSome command.now (λ c. in_range c ≡ true) }
-        ensures said { (s : Option Desk) → IsSeenDesk self.old s → result.0 ≡ called s command.now }
+    pub fn step_sending(&mut self, alloc: Global, command: &Command) -> (CallOutcome, u32)
+        ensures said { (s : Option Desk) → IsSeenDesk self.old s → result.0 ≡ called s (in_form command.now) }
         ensures next { (s : Option Desk) → IsSeenDesk self.old s → result.1 ≡ next_ref_in s }
-        ensures desk { (s : Option Desk) → IsSeenDesk self.old s → IsSeenDesk self.new (desk_by s command.now) }
+        ensures desk { (s : Option Desk) → IsSeenDesk self.old s →
+            IsSeenDesk self.new (desk_by s (in_form command.now)) }
         ensures rest { KeepsRest self.old.handle.open_desk self.new.handle.open_desk }
         ensures refused { status_of result.0 ≢ 0 → self.new.handle.open_desk ≡ self.old.handle.open_desk }
     {

@@ -4,8 +4,8 @@ use Rattle.vf_desk.proofs.flex.vf_desk_load.Goals as goal
 
 pub returns-clause-does : goal.returns-clause-does
 returns-clause-does c =
-    does c.args.desk.now c.load.ensures.form c.step.ensures.said c.step.ensures.desk c.step.ensures.rest c.step.ensures.refused c.give_number.ensures.status
+    does c.args.desk.now c.load.ensures c.step.ensures.said c.step.ensures.desk c.step.ensures.rest c.step.ensures.refused c.give_number.ensures.status
 
 pub returns-clause-address : goal.returns-clause-address
 returns-clause-address c =
-    told_by c.args.desk.now c.load.ensures.form c.step.ensures.said (λ said. number_or said c.args.address.now) c.give_number.ensures.number
+    told_by c.args.desk.now c.load.ensures c.step.ensures.said (λ said. number_or said c.args.address.now) c.give_number.ensures.number

@@ -1,7 +1,10 @@
-use Rattle.vf_desk.proofs.FormLaws.{a-name}
+use Rattle.vf_desk.proofs.Common.{refl}
+use Rattle.rh_defs.specs.Range.{in_range}
+use Rattle.rh_defs.specs.declared.command.Command.TheVariants as command
+use Rattle.vf_desk.proofs.FormLaws.{by-name}
 use Rattle.vf_desk.proofs.forms.budge.Goals as goal
 
-pub returns-clause-form : goal.returns-clause-form
-returns-clause-form c =
-    let name_is = a-name c.args.name.now c.in_ok-name.name c.in_ok-name.ensures in
-    rw name_is.0 at c.checked.ensures.form
+pub returns : goal.returns
+unfolding in_range
+returns c =
+    by-name (λ m. command.Budge m c.args.on) c.name_or_none-name.result c.args.name.now c.name_or_none-name.ensures (λ m bad. rw bad refl)

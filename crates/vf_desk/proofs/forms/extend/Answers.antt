@@ -1,8 +1,13 @@
-use Rattle.vf_desk.proofs.FormLaws.{a-name, an-anchor}
+use Rattle.vf_desk.proofs.Common.{refl, ap, ◌∙◌, in_form}
+use Rattle.rh_defs.specs.Range.{in_range}
+use Rattle.rh_defs.specs.declared.command.Command.TheVariants as command
+use Rattle.vf_desk.proofs.FormLaws.{by-anchor, by-name, first-fails, last-fails}
 use Rattle.vf_desk.proofs.forms.extend.Goals as goal
 
-pub returns-clause-form : goal.returns-clause-form
-returns-clause-form c =
-    let name_is = a-name c.args.name.now c.in_ok-name.name c.in_ok-name.ensures in
-    let anchor_is = an-anchor c.args.anchor c.in_ok-anchor.anchor c.in_ok-anchor.ensures in
-    rw (name_is.0, anchor_is.0) at c.checked.ensures.form
+pub returns : goal.returns
+unfolding in_range
+returns c =
+    by-anchor (λ k. command.Extend c.name_or_none-name.result k c.args.size) c.anchor_or_none-anchor.result c.args.anchor
+    c.anchor_or_none-anchor.ensures (λ k bad. rw bad (first-fails _ (last-fails _)))
+    ∙ by-name (λ m. command.Extend m c.args.anchor c.args.size) c.name_or_none-name.result c.args.name.now
+    c.name_or_none-name.ensures (λ m bad. rw bad refl)

@@ -1,11 +1,15 @@
-use Rattle.vf_desk.proofs.Common.{ap, ◌∙◌, ℤ, w32, to_z-of_z, in_form}
+use Rattle.vf_desk.proofs.Common.{refl, ap, ◌∙◌, ℤ, w32, to_z-of_z, in_form}
+use Rattle.rh_defs.specs.Range.{in_range}
 use Rattle.rh_defs.specs.declared.command.Command.TheVariants as command
-use Rattle.vf_desk.proofs.FormLaws.{a-name, an-anchor}
+use Rattle.vf_desk.proofs.FormLaws.{by-anchor, by-name, first-fails, last-fails}
 use Rattle.vf_desk.proofs.forms.mid.Goals as goal
 
-pub returns-clause-form : goal.returns-clause-form
-returns-clause-form c =
-    let name_is = a-name c.args.name.now c.in_ok-name.name c.in_ok-name.ensures in
-    let anchor_is = an-anchor c.args.anchor c.in_ok-anchor.anchor c.in_ok-anchor.ensures in
-    (let form = rw (name_is.0, anchor_is.0) at c.checked.ensures.form in form)
-    ∙ ap (λ (x : ℤ). in_form (command.Mid c.args.name.now c.args.anchor c.args.offset x)) (to_z-of_z w32 c.args.by c.ranges.by)
+pub returns : goal.returns
+unfolding in_range
+returns c =
+    ap (λ (x : ℤ). in_form (command.Mid c.name_or_none-name.result c.anchor_or_none-anchor.result c.args.offset x))
+    (to_z-of_z w32 c.args.by c.ranges.by)
+    ∙ by-anchor (λ k. command.Mid c.name_or_none-name.result k c.args.offset c.args.by) c.anchor_or_none-anchor.result c.args.anchor
+    c.anchor_or_none-anchor.ensures (λ k bad. rw bad (first-fails _ (first-fails _ (last-fails _))))
+    ∙ by-name (λ m. command.Mid m c.args.anchor c.args.offset c.args.by) c.name_or_none-name.result c.args.name.now
+    c.name_or_none-name.ensures (λ m bad. rw bad refl)

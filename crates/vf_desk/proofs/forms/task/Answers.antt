@@ -1,7 +1,8 @@
+use Rattle.vf_desk.proofs.Common.{refl}
 use Rattle.vf_desk.proofs.FormLaws.{a-name}
 use Rattle.vf_desk.proofs.forms.task.Goals as goal
 
-pub returns-clause-form : goal.returns-clause-form
-returns-clause-form c =
-    let name_is = a-name c.args.name.now c.in_ok-name.name c.in_ok-name.ensures in
-    rw (← c.in_ok-manner.ensures) (rw name_is.0 at c.checked.ensures.form)
+pub returns : goal.returns
+returns c =
+    let name_is = a-name c.args.name.now c.in-Some-name_of.name c.in-Some-name_of.ensures in
+    rw (← c.in-Some.ensures) (rw name_is.0 refl)

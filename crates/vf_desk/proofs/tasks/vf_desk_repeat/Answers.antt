@@ -4,8 +4,8 @@ use Rattle.vf_desk.proofs.tasks.vf_desk_repeat.Goals as goal
 
 pub returns-clause-does : goal.returns-clause-does
 returns-clause-does c =
-    does c.args.desk.now c.repeat.ensures.form c.step.ensures.said c.step.ensures.desk c.step.ensures.rest c.step.ensures.refused c.give_number.ensures.status
+    does c.args.desk.now c.repeat.ensures c.step.ensures.said c.step.ensures.desk c.step.ensures.rest c.step.ensures.refused c.give_number.ensures.status
 
 pub returns-clause-my_ref : goal.returns-clause-my_ref
 returns-clause-my_ref c =
-    told_by c.args.desk.now c.repeat.ensures.form c.step.ensures.said (λ said. number_or said c.args.my_ref.now) c.give_number.ensures.number
+    told_by c.args.desk.now c.repeat.ensures c.step.ensures.said (λ said. number_or said c.args.my_ref.now) c.give_number.ensures.number

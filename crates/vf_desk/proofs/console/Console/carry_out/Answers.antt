@@ -14,8 +14,9 @@ returns-in-Ask-clause-text c = λ d seen.
     ((answers-question c.args.self.now.world.desk c.in-Ask.question (rw c.in-Ask.is at c.requires)).text d seen)
 
 pub returns-in_default-clause-desk : goal.returns-in_default-clause-desk
-returns-in_default-clause-desk c = λ d seen. (c.apply.ensures.steps d seen).1
+returns-in_default-clause-desk c = λ d seen. (c.apply-reply.ensures.steps d seen).1
 
 pub returns-in_default-clause-text : goal.returns-in_default-clause-text
 returns-in_default-clause-text c =
-    (answers-command c.args.self.now.world.desk c.apply.new.self.desk c.args.self.now.command c.apply.result c.in_default.not-Ask c.apply.ensures.steps).text
+    (answers-command c.args.self.now.world.desk c.apply-reply.new.self.desk c.args.self.now.command c.apply-reply.result c.handed-handed.result
+    c.said_of-self.result c.in_default.not-Ask c.apply-reply.ensures.steps c.handed-handed.ensures c.said_of-self.ensures).text

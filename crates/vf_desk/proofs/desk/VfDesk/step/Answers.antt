@@ -1,12 +1,12 @@
-use Rattle.vf_desk.proofs.Common.{Some, None, ap, ◌∙◌, desk_by, KeepsRest}
+use Rattle.vf_desk.proofs.Common.{Some, None, ap, ◌∙◌, desk_by, in_form, KeepsRest}
 use Rattle.vf_desk.proofs.SeenLaws.{held-by, held-desk, held-same, in-handle, none-by, none-desk, none-said, stays-rest}
 use Rattle.vf_desk.proofs.desk.VfDesk.step.Goals as goal
 
 pub returns-in_default-clause-said : goal.returns-in_default-clause-said
-returns-in_default-clause-said c = none-said c.in_default.ensures.taken c.in_default.ensures.left c.args.command.now
+returns-in_default-clause-said c = none-said c.in_default.ensures.taken c.in_default.ensures.left (in_form c.args.command.now)
 
 pub returns-in_default-clause-desk : goal.returns-in_default-clause-desk
-returns-in_default-clause-desk c = none-desk c.in_default.ensures.taken c.in_default.ensures.left c.args.command.now
+returns-in_default-clause-desk c = none-desk c.in_default.ensures.taken c.in_default.ensures.left (in_form c.args.command.now)
 
 pub returns-in_default-clause-rest : goal.returns-in_default-clause-rest
 returns-in_default-clause-rest c = none-by c.in_default.ensures.taken c.in_default.ensures.left KeepsRest (stays-rest None)
@@ -22,7 +22,8 @@ returns-clause-said c = in-handle (ap Some c.deref_mut.ensures.value ∙ c.in-So
 
 pub returns-clause-desk : goal.returns-clause-desk
 returns-clause-desk c =
-    held-desk (ap Some c.deref_mut.ensures.value ∙ c.in-Some.ensures.taken) c.put.ensures (λ s. desk_by s c.args.command.now) c.step-called.ensures.desk
+    held-desk (ap Some c.deref_mut.ensures.value ∙ c.in-Some.ensures.taken) c.put.ensures
+    (λ s. desk_by s (in_form c.args.command.now)) c.step-called.ensures.desk
 
 pub returns-clause-rest : goal.returns-clause-rest
 returns-clause-rest c = held-by (ap Some c.deref_mut.ensures.value ∙ c.in-Some.ensures.taken) c.put.ensures KeepsRest c.step-called.ensures.rest

@@ -1,12 +1,12 @@
-use Rattle.vf_desk.proofs.Common.{Some, refl}
+use Rattle.vf_desk.proofs.Common.{Some, in_form, refl}
 use Rattle.vf_desk.proofs.SeenLaws.{done-asked, done-desk, done-refused, done-rest, done-said, shut-desk, shut-said, stays-rest}
 use Rattle.vf_desk.proofs.open_desk.OpenDesk.step.Goals as goal
 
 pub returns-in-None-clause-said : goal.returns-in-None-clause-said
-returns-in-None-clause-said c = shut-said c.in-None.is c.args.command.now
+returns-in-None-clause-said c = shut-said c.in-None.is (in_form c.args.command.now)
 
 pub returns-in-None-clause-desk : goal.returns-in-None-clause-desk
-returns-in-None-clause-desk c = shut-desk c.in-None.is c.args.command.now
+returns-in-None-clause-desk c = shut-desk c.in-None.is (in_form c.args.command.now)
 
 pub returns-in-None-clause-rest : goal.returns-in-None-clause-rest
 returns-in-None-clause-rest c = stays-rest (Some c.args.self.now)

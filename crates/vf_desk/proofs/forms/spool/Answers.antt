@@ -1,0 +1,14 @@
+use Rattle.vf_desk.proofs.Common.{refl, ◌∙◌}
+use Rattle.rh_defs.specs.Range.{in_range}
+use Rattle.rh_defs.specs.declared.command.Command.TheVariants as command
+use Rattle.rh_defs.specs.declared.raw_command.RawCommand.TheVariants as raw
+use Rattle.vf_desk.proofs.FormLaws.{by-anchor, by-name, first-fails, last-fails}
+use Rattle.vf_desk.proofs.forms.spool.Goals as goal
+
+pub returns : goal.returns
+unfolding in_range
+returns c =
+    by-anchor (λ k. command.Raw (raw.Spool c.name_or_none-name.result k c.args.to c.args.your_ref)) c.anchor_or_none-anchor.result c.args.anchor
+    c.anchor_or_none-anchor.ensures (λ k bad. rw bad (first-fails _ (first-fails _ (last-fails _))))
+    ∙ by-name (λ m. command.Raw (raw.Spool m c.args.anchor c.args.to c.args.your_ref)) c.name_or_none-name.result c.args.name.now
+    c.name_or_none-name.ensures (λ m bad. rw bad refl)

@@ -1,0 +1,12 @@
+use Rattle.vf_desk.proofs.Common.{refl}
+use Rattle.rh_defs.specs.Range.{in_range}
+use Rattle.rh_defs.specs.declared.command.Command.TheVariants as command
+use Rattle.rh_defs.specs.declared.raw_command.RawCommand.TheVariants as raw
+use Rattle.vf_desk.proofs.FormLaws.{by-name}
+use Rattle.vf_desk.proofs.forms.transfer.Goals as goal
+
+pub returns : goal.returns
+unfolding in_range
+returns c =
+    by-name (λ m. command.Raw (raw.Transfer m c.args.address c.args.to c.args.place c.args.size)) c.name_or_none-name.result c.args.name.now
+    c.name_or_none-name.ensures (λ m bad. rw bad refl)

@@ -1,0 +1,5 @@
+use Rattle.vf_desk.proofs.CallLaws.{does}
+use Rattle.vf_desk.proofs.programs.vf_desk_transfer_to.Goals as goal
+
+pub returns : goal.returns
+returns c = does c.args.desk.now c.transfer.ensures c.step.ensures.said c.step.ensures.desk c.step.ensures.rest c.step.ensures.refused c.status.ensures
