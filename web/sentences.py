@@ -119,6 +119,8 @@ def table(top):
     reasons = {it for command in found.values() for it in command["refusals"]}
     return {"commands": found, "words": {it: rules.text_of(f"expected {it}") for it in sorted(words)},
             "refusals": {it: refusal(rules, it) for it in rules.in_order("why", reasons)},
+            "ofPrograms": {it: {"why": rules.text_of(f"program_reason facts c {it}"),
+                                "helps": rules.text_of(f"program_help {it}").strip()} for it in ("Busy", "NoFile")},
             "allBusy": rules.text_of("busy_says None"), "detail": rules.text_of("detail_name (Some name)"),
             "faults": faults(rules)}
 

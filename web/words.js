@@ -17,6 +17,7 @@ const GROUPS_OF_KINDS = [
   ["Flex blocks", ["Alloc", "Load", "Put", "Show", "Blocks", "Extend", "Mid", "Free"]],
   ["C heap", ["Claim", "Release", "Resize", "Heap", "Budge"]],
   ["Files handed over", ["Save", "Poll", "Status", "Repeat", "Cancel"]],
+  ["Tasks with code of their own", ["Send", "Ack", "Transfer", "Spool", "Scrap", "Read", "Write"]],
   ["Areas of pages", ["Area", "Make", "Remove", "RmaClaim", "RmaFree", "RmaResize"]],
 ];
 
@@ -26,6 +27,7 @@ export const OF_ONE_FORM = {
   "task NAME BUF": "Starts a task. Its slot has one page.",
   "task NAME BUF deaf": "Starts a task that ignores each file that it is offered.",
   "task NAME BUF file": "Starts a task that answers no RAMFetch: its files go by way of the scrap file.",
+  "task NAME BUF raw": "Starts a task with code of its own: it takes messages, and you send its answers.",
   "budge NAME on": "Lets the C heap grow: the flex blocks budge then.",
   "budge NAME off": "Forbids the C heap to grow.",
   "cancel NAME in": "Gives up the transfer that comes in.",
@@ -41,6 +43,9 @@ const ABOUT_WORDS = {
   BY: "how many bytes", K: "an area: 0 to 5, or one that was made", MAX: "the most pages that it may have",
   ID: "a transfer, by the ref of its DataSave", ADDR: "the address of a block, as &8114",
   HEX: "bytes in hexadecimal: 68656c6c6f spells hello", LEAF: "a name for the file",
+  CODE: "17, or 18 for a message that comes back where it isn’t answered", HANDLE: "a task, by its handle",
+  REF: "the message that this answers, or 0", ACTION: "what the message is: 1 is DataSave, 6 RAMFetch",
+  DATA: "the words behind the action, in hexadecimal",
 };
 
 // The same where it isn't as usual.
@@ -113,6 +118,7 @@ export const OUTCOMES = {
   "loaded N done": "It loads N bytes of the scrap file: they are the document.",
   "loaded N failed REFUSAL": "It loads N bytes of the scrap file, but its answer is refused.",
   "done": "The transfer is done: the file was loaded.",
+  "taken": "Its own code has the message now.",
   "failed REFUSAL": "What it asks for is refused, and the transfer fails.",
   "failed": "The transfer fails.",
   "ignored": "Nothing is done with it.",
@@ -121,6 +127,6 @@ export const OUTCOMES = {
 // Words that other languages or programs have for a command. The program guesses none.
 export const OTHER_WORDS = {
   malloc: "claim", calloc: "claim", realloc: "resize", new: "task", start: "task", spawn: "task", stop: "kill",
-  delete: "free", dealloc: "free", write: "put", store: "put", read: "show", print: "show", dump: "show",
-  list: "blocks", send: "save", give: "save", receive: "poll", wait: "poll", abort: "cancel", pages: "areas",
+  delete: "free", dealloc: "free", store: "put", print: "show", dump: "show",
+  list: "blocks", give: "save", receive: "poll", wait: "poll", abort: "cancel", pages: "areas",
 };

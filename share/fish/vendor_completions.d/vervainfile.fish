@@ -1,7 +1,7 @@
 # Completion of vervainfile's words for fish.
 
 set -l verbs run explain map draw check help
-set -l commands task kill save poll cancel repeat status alloc load put free extend mid show blocks claim release resize budge heap area make remove areas rma
+set -l commands task kill save poll cancel repeat status alloc load put free extend mid show blocks claim release resize budge heap area make remove areas rma send ack transfer spool scrap read write
 set -l none "not __fish_seen_subcommand_from $verbs"
 
 complete -c vervainfile -f -n $none -a run -d "Run a script and print its replies"

@@ -22,9 +22,9 @@ NUMBER = len(BEFORE) + 1
 LINES = [
     # Bad lines.
     ("tsk a", ', word 1 "tsk": no command has this name', None),
-    ("task", ": expected task NAME BUF, task NAME BUF deaf or task NAME BUF file", None),
+    ("task", ": expected task NAME BUF, task NAME BUF deaf, task NAME BUF file or task NAME BUF raw", None),
     ("task a 0", ', word 3 "0": a receive buffer has 1 to 65536 bytes', None),
-    ("task a 1 dead", ', word 4 "dead": this word is deaf or file, or left out', None),
+    ("task a 1 dead", ', word 4 "dead": this word is deaf, file or raw, or left out', None),
     ("rma", ": expected rma claim N, rma free ADDR or rma resize ADDR DELTA", None),
     ("rma x 1", ', word 2 "x": this word is claim, free or resize', None),
     ("rma claim", ": expected rma claim N", None),
@@ -46,6 +46,13 @@ LINES = [
     ("budge a in", ', word 3 "in": this word is on or off', None),
     ("kill abcdefghijklmnopq", ', word 2 "abcdefghijklmnop..": a name is a letter, then up to 11 letters or digits', None),
     ("save a 1 b 12345678901", ', word 5 "12345678901": a leafname has 1 to 10 characters', None),
+    ("send a 18 1 0", ": expected send NAME CODE HANDLE REF ACTION [DATA]", None),
+    ("send a 19 1 0 9", ', word 3 "19": this word is 17 or 18', None),
+    ("send a 18 0 0 9", ', word 4 "0": a handle is 1 to 4294967295', None),
+    ("send a 18 1 -1 9", ', word 5 "-1": a ref is 0 to 4294967295, and 0 answers nothing', None),
+    ("send a 18 1 0 x", ', word 6 "x": an action is 0 to 4294967295', None),
+    ("send a 18 1 0 9 010203", ', word 7 "010203": data are hexadecimal digits, eight for each word, or left out', None),
+    ("transfer a &8114 2 &8114", ": expected transfer NAME ADDR HANDLE ADDR N", None),
     ("  areas   1 ", ": expected areas", None),
     ("areas\r", " ends in a carriage return", "end lines with a line feed alone"),
     ("\r", " ends in a carriage return", "end lines with a line feed alone"),
@@ -78,6 +85,9 @@ LINES = [
     ("alloc a 2 2147483647", ": the pool has too few free pages: 59",
      "areas lists the pages; free some, or begin with more by --pages"),
     ("area 300 1", ": no area has this number: 300", "areas lists the numbers, and make makes an area"),
+    ("send a 17 2 0 9", ": this isn't for tasks of its manner", "raw tasks send by send or spool, and others by save"),
+    ("ack b", ": this isn't for tasks of its manner", "raw tasks send by send or spool, and others by save"),
+    ("read a &9008 6", ": offset or bytes lie outside the block", "blocks lists the sizes, and extend makes a block longer"),
 ]
 
 # Scripts whose last command is refused for what many commands bring, what is said of it, and what helps.
@@ -95,6 +105,21 @@ TOO_MANY = [
      ": the last number of an area has been given", None),
     (["task a 100", "task b 100 deaf", *(f"alloc a {k} 1" for k in range(9)), *(f"save a {k} b doc" for k in range(9))],
      ": eight transfers that go out are open", "poll until the transfer has ended, or cancel it"),
+]
+# Scripts of tasks with code of their own whose last command is refused, what is said of it, and what helps.
+PROGRAMS = [
+    (["task a 100", "task r 1 raw", "alloc r 0 5", "save r 0 a doc"], ": this isn't for tasks of its manner",
+     "raw tasks send by send or spool, and others by save"),
+    (["task a 100", "task r 1 raw", "send r 17 1 1 9"], ": no message has this ref yet", "0 answers nothing"),
+    (["task r 1 raw", "send r 17 2 0 9"], ": the task that this is for isn't live", "start the recipient first"),
+    (["task a 100", "task r 1 raw", "alloc r 0 5", "transfer r &9008 1 &8114 5"],
+     ": offset or bytes lie outside the block", "blocks lists the sizes, and extend makes a block longer"),
+]
+# The same where what is said isn't what other commands are told.
+OWN_REASONS = [
+    (["task a 100", "task r 1 raw", "alloc r 0 5", "spool r 0 1 0", "spool r 0 1 0"], ": there is a scrap file already",
+     "it goes when its DataLoad is loaded or answered"),
+    (["task r 1 raw", "scrap r 0"], ": the task doesn't hold the message about a scrap file", "poll takes it, where one waits"),
 ]
 # Refusals that no script brings whose length a test could have: 4,294,967,295 tasks or messages stand before them.
 FAR = {"NoHandles", "NoRefs"}
@@ -147,9 +172,9 @@ def test_clean_scripts(suite):
         suite.ends(f"explain {script[:16]}", ["explain", "-"], b"", b"", 0, stdin=script)
 
 
-def test_too_many(suite):
-    """A command is refused for what many commands before it have brought."""
-    for lines, said, helps in TOO_MANY:
+def test_last_lines(suite):
+    """A command is refused for what many commands before it have brought, or for whose task gives it."""
+    for lines, said, helps in (*TOO_MANY, *PROGRAMS, *OWN_REASONS):
         wanted = explained(len(lines), lines[-1], said, helps).encode()
         suite.ends(f"explain{said}", ["explain", "-"], wanted, b"", 1, stdin=script_of(*lines))
 
@@ -213,7 +238,7 @@ def forms_in(head):
 def test_help_of_commands(suite):
     """The help of a command has its forms, what it does and why it may be refused, as documents and definitions have it."""
     refusals = refusals_of_definitions()
-    suite.is_true("all refusals are said", len(refusals) == 24)
+    suite.is_true("all refusals are said", len(refusals) == 26)
     for command in commands_of_docs():
         told, status = suite.run(["help", *command])[1:]
         head, deed, others = help_of(suite, command)
@@ -266,7 +291,7 @@ def texts_in(value):
 def test_explanations_have_the_pages_sentences(suite):
     """What the page has of refusals and of bad lines is what the program writes of them, and each refusal is met."""
     written, met = suite.run(["explain", "-"], stdin=b"areas")[0].decode(), set()
-    for lines in [*([*BEFORE, line] for line, *_ in LINES), *(lines for lines, *_ in TOO_MANY)]:
+    for lines in [*([*BEFORE, line] for line, *_ in LINES), *(lines for lines, *_ in (*TOO_MANY, *PROGRAMS))]:
         reply, told = (suite.run([it, "-"], stdin=script_of(*lines))[0].decode() for it in ("run", "explain"))
         written += told
         outcome, name = reply.splitlines()[-1].split()[:2]
