@@ -222,8 +222,10 @@ static void hears_back(struct client *it, const struct vf_message_words *heard)
 static void hears(struct client *it, const struct vf_message_words *heard)
 {
     uint32_t from = heard->from, ref = heard->my_ref, answers = heard->your_ref;
-    struct vf_send_action sends = {0};
-    struct vf_take_action takes = {0};
+    struct vf_send_action sends;
+    struct vf_take_action takes;
+    memset(&sends, 0, sizeof sends);
+    memset(&takes, 0, sizeof takes);
     switch (heard->action) {
     case DATA_SAVE: vf_receiver_on_save(&it->in, false, from, ref, &takes); break;
     case RAM_TRANSMIT:
