@@ -62,7 +62,12 @@ export class Memory {
     this.#picture = new Picture(parts.picture, addedStyle);
     this.#chart = new Picture(parts.chart, addedStyle);
     parts.views.hidden = !(session.has("vf_draw") && session.has("vf_map"));
-    for (const radio of this.#radios()) radio.addEventListener("change", () => this.show());
+    for (const radio of this.#radios()) {
+      radio.addEventListener("change", () => {
+        this.show();
+        this.settle();
+      });
+    }
     // A click on the number of a line in the chart goes to that line.
     parts.chart.addEventListener("click", (event) => {
       const [target] = event.composedPath();
@@ -88,10 +93,13 @@ export class Memory {
     const isEmpty = this.#session.state.lines.length === 0;
     this.#parts.empty.hidden = !isEmpty;
     this.#makeRoomForMessages();
+    // Where figures stand is asked for while they are drawn: their place is seen by then.
+    this.#parts.picture.hidden = this.#view !== "picture";
     const fault = this.#session.fault || this.#draw();
     this.#parts.nothing.textContent = fault;
     this.#parts.nothing.hidden = !fault || isEmpty;
     const view = fault ? undefined : this.#view;
+    if (fault) this.#picture.clear();
     this.#parts.picture.hidden = view !== "picture";
     this.#parts.map.hidden = view !== "map";
     this.#parts.shown.replaceChildren(...this.#session.command < 0 ? [] : shownLine(this.#session));
@@ -165,7 +173,7 @@ export class Memory {
   // Brings what has changed and the last messages into view, once all of the page is as high as it gets.
   settle() {
     const { frame, messages } = this.#parts;
-    this.#picture.bringIntoView(frame);
+    this.#picture.settle(frame);
     if (!messages.hidden) messages.scrollTop = messages.scrollHeight;
   }
 

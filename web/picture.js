@@ -89,21 +89,6 @@ function wordsOfPool(pool) {
   return words;
 }
 
-// Once the frame of a pool is seen, scrolls it to the pool's last page, unless it was scrolled elsewhere. Where what
-// stands before the pool is out of sight then, its words are seen above.
-function showPoolsEnd(frame, words, lastCells, isScrolled) {
-  const [pool] = frame.children;
-  const observer = new ResizeObserver(() => {
-    if (!frame.clientWidth || !lastCells) return;
-    observer.disconnect();
-    const { width } = pool.getBoundingClientRect();
-    const end = (lastCells.x.baseVal.value + lastCells.width.baseVal.value + EDGE) / pool.viewBox.baseVal.width;
-    words.hidden = end * width <= frame.clientWidth;
-    if (!isScrolled) frame.scrollLeft = (end - 1) * width;
-  });
-  observer.observe(frame);
-}
-
 // A frame around elements, which can be scrolled by keys.
 function frameOf(label, elements) {
   const frame = document.createElement("div");
@@ -117,11 +102,13 @@ export class Picture {
   #figure = document.createElement("div");
   #sheetStyle = new CSSStyleSheet();
   #styleText;
-  // From where to where the figure is to be brought into view, once that can be done; whether its end matters more than
-  // its beginning; and whether it may be seen gliding.
-  #due;
-  #endMatters = false;
+  // Whether what has changed is to be brought into view, once that can be done; where the cards stand between which bytes
+  // go, if some do; and whether the figure may be seen gliding.
+  #isDue = false;
+  #ways = [];
   #glides = false;
+  // Whether the pool is to be scrolled to its last page: until it is seen, unless it was scrolled elsewhere before.
+  #poolsEndIsDue = false;
 
   // Of the element in which it stands, and what is added to the sheet's style.
   constructor(host, addedStyle) {
@@ -150,9 +137,8 @@ export class Picture {
     const chart = this.#figure.querySelector("aside > svg");
     if (chart) this.#figure.prepend(headsOf(chart));
     if (before) moveParts(this.#figure, before);
-    const ways = cards ? flyBytes(this.#figure, cards, changes) : [];
-    [this.#glides, this.#endMatters] = [isBeside, ways.length > 0];
-    this.#due = ways.length ? reachOf(ways, ABOVE_BYTES) : this.#changed;
+    this.#ways = cards ? flyBytes(this.#figure, cards, changes) : [];
+    [this.#glides, this.#isDue] = [isBeside, true];
   }
 
   // From where to where something has changed in the figure, or nothing.
@@ -163,17 +149,26 @@ export class Picture {
     return places.length ? reachOf(places, MARGIN) : undefined;
   }
 
-  // Brings what has changed into the view of an element in which the figure is scrolled. Where there isn't room for all,
-  // that is its beginning, or the card to which bytes go. What is in view stays where it is.
-  bringIntoView(scroller) {
-    if (!this.#due || !scroller.clientHeight) return;
+  // Shows the pool's end, and brings what has changed into the view of an element in which the figure is scrolled, once
+  // all of the page is as high as it gets.
+  settle(scroller) {
+    if (this.#showPoolsEnd()) this.#poolsEndIsDue = false;
+    this.#bringIntoView(scroller);
+  }
+
+  // Where there isn't room for all that has changed, its beginning is brought into view, or the card to which bytes go.
+  // What is in view stays where it is.
+  #bringIntoView(scroller) {
+    if (!this.#isDue || !scroller.clientHeight) return;
+    this.#isDue = false;
+    const reach = this.#ways.length ? reachOf(this.#ways, ABOVE_BYTES) : this.#changed;
+    if (!reach) return;
     const above = this.#figure.getBoundingClientRect().top - scroller.getBoundingClientRect().top + scroller.scrollTop;
-    const [first, last] = this.#due.map((it) => it + above);
-    this.#due = undefined;
+    const [first, last] = reach.map((it) => it + above);
     const { clientHeight: room, scrollTop } = scroller;
     if (first >= scrollTop && last <= scrollTop + room) return;
     const isWhole = last - first <= room;
-    const top = (isWhole ? first < scrollTop : !this.#endMatters) ? first : last - room;
+    const top = (isWhole ? first < scrollTop : !this.#ways.length) ? first : last - room;
     scroller.scrollTo({ top, behavior: this.#glides && !LESS_MOTION.matches ? "smooth" : "auto" });
   }
 
@@ -193,10 +188,25 @@ export class Picture {
     const words = wordsOfPool(pool);
     frames[0].classList.add("pool");
     memory.replaceChildren(words, ...frames);
-    showPoolsEnd(frames[0], words, [...this.#figure.querySelectorAll("#grid .cells")].at(-1), scrolled[0]);
     frames.forEach((frame, at) => {
       if (scrolled[at]) frame.scrollLeft = scrolled[at];
     });
+    this.#poolsEndIsDue = !scrolled[0];
+    this.#showPoolsEnd();
+  }
+
+  // Where the pool is seen, scrolls it to its last page if that is due. Where what stands before the pool is out of sight
+  // then, its words are seen above. Gives whether the pool is seen.
+  #showPoolsEnd() {
+    const frame = this.#figure.querySelector(".pool");
+    const lastCells = [...this.#figure.querySelectorAll("#grid .cells")].at(-1);
+    if (!frame?.clientWidth || !lastCells) return false;
+    const [pool] = frame.children;
+    const { width } = pool.getBoundingClientRect();
+    const end = (lastCells.x.baseVal.value + lastCells.width.baseVal.value + EDGE) / pool.viewBox.baseVal.width;
+    this.#figure.querySelector(".free").hidden = end * width <= frame.clientWidth;
+    if (this.#poolsEndIsDue) frame.scrollLeft = (end - 1) * width;
+    return true;
   }
 
   // Takes the sheet's style over, and how figures are read. What the style says of a whole page holds for the picture.

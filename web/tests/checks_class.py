@@ -323,8 +323,9 @@ def check_movement(bench):
         same(moving(LINE % 3), [], "what moves where nothing was seen before")
         # A row of 4,096 bytes is 1,024 units wide, from 150 on. A block of 100 bytes with its header of 8 has 27.
         same(moving("#step"), [["flex block 1, &9074, 100 bytes", "0", "1"], ["1", "0", "1"]], "what comes in")
-        page.click("step")
-        still = page.value(picture)
+        still = page.value(f"document.querySelector('#step').click(); {picture}")
+        page.tab.wait(lambda: page.value(f"{tree}.getAnimations().length") == 0, "what comes in goes on and on")
+        same(page.value(picture), still, "the picture, once nothing moves any more")
         slides = [["flex block 0, &9008, 200 bytes", "150px 85px 27px", "150px 85px 52px"],
                   ["0", "translate(-12.5px, 0px)", "none"],
                   ["flex block 1, &90D8, 100 bytes", "177px 85px 27px", "202px 85px 27px"],
@@ -347,16 +348,21 @@ def check_movement(bench):
 
 
 # Steps on or back, and gives what fades over the picture then: its class, its units, and how far it is from a shape in
-# the picture.
-FADING = """((button, shape) => {
+# the picture, as frames show it that come behind. It is stopped meanwhile, and fades then.
+FADING = """(async (button, shape) => {
   const tree = document.querySelector('#picture').shadowRoot;
   document.querySelector(button).click();
-  const fades = tree.getAnimations().map(({ effect }) => effect.target).filter((it) => it.closest('.flying'));
-  return fades.map(({ firstChild: it }) => {
+  const moves = tree.getAnimations();
+  moves.forEach((it) => it.pause());
+  for (const _ of [1, 2]) await new Promise(requestAnimationFrame);
+  const fades = moves.map(({ effect }) => effect.target).filter((it) => it.closest('.flying'));
+  const found = fades.map(({ firstChild: it }) => {
     const [one, other] = [it, tree.querySelector(`.memory ${shape}`)].map((at) => at.getBoundingClientRect());
     return [it.getAttribute('class'), ...['x', 'y', 'width'].map((name) => Number(it.getAttribute(name))),
       Math.round(Math.max(...['x', 'y', 'right', 'bottom'].map((name) => Math.abs(one[name] - other[name]))))];
   });
+  moves.forEach((it) => it.play());
+  return found;
 })('%s', '%s')"""
 
 
@@ -377,8 +383,9 @@ def check_fading(bench):
 
 
 # Steps on or back, and gives the bytes that fly then: each one's character, the names of the cards over which it is at
-# first and at last, and how many milliseconds behind the first one it begins. Those before are looked for at first.
-FLYING = """((button) => {
+# first and at last, and how many milliseconds behind the first one it begins. Those before are looked for at first, and
+# those behind as frames show them that come behind: bytes are stopped meanwhile, and fly then.
+FLYING = """(async (button) => {
   const tree = document.querySelector('#picture').shadowRoot;
   const cards = () => [...tree.querySelectorAll('.card')].map((card) => {
     const [place, corner] = [card, tree.querySelector('.figure')].map((it) => it.getBoundingClientRect());
@@ -388,15 +395,20 @@ FLYING = """((button) => {
   });
   const before = cards();
   document.querySelector(button).click();
+  const moves = tree.getAnimations();
+  moves.forEach((it) => it.pause());
+  for (const _ of [1, 2]) await new Promise(requestAnimationFrame);
   const under = (places, { transform }) => {
     const [x, y] = transform.match(/-?[0-9.]+/g).map(Number);
     return places.find((it) => x >= it.left && x < it.left + it.width && y >= it.top && y < it.top + it.height)?.name;
   };
-  return tree.getAnimations().filter(({ effect }) => effect.target.matches('.byte')).map(({ effect }) => {
+  const found = moves.filter(({ effect }) => effect.target.matches('.byte')).map(({ effect }) => {
     const [from, to] = effect.getKeyframes();
     return [effect.target.textContent, under(before, from), under(cards(), to),
       effect.getTiming().delay];
   });
+  moves.forEach((it) => it.play());
+  return found;
 })('%s')"""
 
 
