@@ -9,7 +9,8 @@ const COMMANDS = [...new Set(FORMS.map(({ words }) => words[0]))];
 const KINDS_OF_COMMANDS = Object.values(SENTENCES.commands);
 const FAULTS = SENTENCES.faults;
 // Kinds of words that are numbers.
-const NUMBERS = ["Anchor", "Buffer", "Size", "Offset", "Amount", "AreaNumber", "MadeNumber", "MostPages", "Id"];
+const NUMBERS = ["Anchor", "Buffer", "Size", "Offset", "Amount", "AreaNumber", "MadeNumber", "MostPages", "Id",
+  "Handle", "AnsweredRef", "ActionNumber"];
 // The word of a form that a refusal is about, by the function that finds it. What the desk alone has, as how many pages
 // are free, which transfer uses a block or how long a block is, the program tells and the page doesn't.
 const ABOUT = { name_in: "NAME", recipient_in: "TO", loaded_file: "FILE", anchor_in: "A", area_in: "K",
@@ -20,6 +21,7 @@ const BY_SCRAP_FILE = ["spool", "scrap"];
 const SHORT_WORD = 4;
 const MOST_OTHER = { short: 1, long: 2 };
 const HEX_BASE = 16;
+const DIGITS_OF_WORD = 8;
 const CARRIAGE_RETURN = 13;
 const TAB = 9;
 // The bytes that a line of words may have.
@@ -84,9 +86,16 @@ function meantBytes(word) {
   return /^[0-9a-f]+$/i.test(digits) ? undefined : hexOf(word.replace(/^(["'])(.*)\1$/s, "$2"));
 }
 
+// Words of memory as they were meant: their digits with something around them.
+function meantData(word) {
+  const digits = meantBytes(word);
+  return /^(?:0x)?[0-9a-f ,_:-]+$/i.test(word) && digits?.length % DIGITS_OF_WORD === 0 ? digits : undefined;
+}
+
 // What a word of a kind was meant to be, if that is clear.
 function meant(kind, word) {
   if (kind === "Bytes") return meantBytes(word);
+  if (kind === "Data") return meantData(word);
   if (kind === "Address") return ADDRESS.test(word) ? `&${ADDRESS.exec(word)[1].toUpperCase()}` : undefined;
   if (!NUMBERS.includes(kind)) return undefined;
   if (OTHER_NUMBER.test(word)) return String(parseInt(OTHER_NUMBER.exec(word)[1], HEX_BASE));
@@ -132,8 +141,8 @@ function countFault(words) {
   const { expected, own, words: kinds } = kindOf(words);
   const fault = { says: sentence(FAULTS.count + expected) };
   const last = own.length + kinds.length - 1;
-  if (kinds.at(-1) !== "Bytes" || words.length <= last + 1) return fault;
-  const bytes = meantBytes(words.slice(last).join(" "));
+  if (!["Bytes", "Data"].includes(kinds.at(-1)) || words.length <= last + 1) return fault;
+  const bytes = meant(kinds.at(-1), words.slice(last).join(" "));
   return bytes ? { ...fault, fix: [...words.slice(0, last), bytes].join(" ") } : fault;
 }
 
@@ -176,8 +185,9 @@ function isOutcome(outcome, words) {
 // What a poll did, by the words of its reply.
 function pollSays([code, action, ref, , ...outcome]) {
   if (code === "0") return "No message waits for it.";
-  const comes = code === "19" ? `Its ${action} ${ref} comes back: nobody has answered it.`
-    : `It takes ${action} ${ref}, which wants ${code === "18" ? "an" : "no"} answer.`;
+  const message = /^\d+$/.test(action) ? `message ${ref} of action ${action}` : `${action} ${ref}`;
+  const comes = code === "19" ? `Its ${message} comes back: nobody has answered it.`
+    : `It takes ${message}, which wants ${code === "18" ? "an" : "no"} answer.`;
   const found = Object.keys(OUTCOMES).find((it) => isOutcome(it, outcome));
   if (!found) return comes;
   const said = found.split(" ").reduce((says, word, at) =>

@@ -9,6 +9,7 @@ const FLIGHT = { duration: 600, easing: MOTION.easing, fill: "both" };
 const APART = 40;
 const WIDTH = 16;
 const INTO_BUFFER = /^([1-9]\d*) bytes? into the buffer of (.+) at (&[0-9A-F]+)$/;
+const TRANSMITS = /^(.+) sends RAMTransmit \d+ to .+$/;
 const INTO_DOCUMENT = /^Flex block (\d+) had (\d+) bytes?, now (\d+)$/;
 const TAKES = /^(.+) takes RAMTransmit \d+$/;
 const PAIRS = /^(?:[0-9a-f]{2})+/;
@@ -39,12 +40,14 @@ export function cardsIn(figure) {
 const transferOf = (card, way) => partsOfFirst(card?.transfers ?? [], new RegExp(`^${way} (\\d+)$`))[0];
 const isUsed = (way, transfer) => (card) => transfer !== undefined && transferOf(card, way) === transfer;
 
-// From which card to which one which bytes go, where a buffer gets some. Behind the command no transfer may use the
-// document any more: it is one of the cards before.
+// From which card to which one which bytes go, where a buffer gets some from the document of a task that says that it
+// sends them: a forged message brings none. Behind the command no transfer may use the document any more: it is one of
+// the cards before.
 function wayIntoBuffer(before, cards, changes) {
   const [count, slot, address] = partsOfFirst(changes, INTO_BUFFER);
+  const [sender] = partsOfFirst(changes, TRANSMITS);
   const to = cards.find((card) => card.slot === slot && card.name === `buffer ${address}`);
-  const from = before.find(isUsed("out", transferOf(to, "in")));
+  const from = before.filter((card) => card.slot === sender).find(isUsed("out", transferOf(to, "in")));
   return from && to && { from, to, bytes: to.bytes.slice(0, count) };
 }
 

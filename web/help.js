@@ -1,7 +1,7 @@
 // The help: each form of a command with what it does and what its words are, and each refusal; what is sought alone.
 
 import { element } from "./prose.js";
-import { GROUPS, REFUSALS_TOLD, isKind } from "./words.js";
+import { GROUPS, REFUSALS_TOLD } from "./words.js";
 
 // One entry: a term in code, what it means, its words, and what else is told of it.
 function entryOf(term, says, words = [], others = []) {
@@ -21,7 +21,7 @@ function entryOf(term, says, words = [], others = []) {
 
 function entryOfForm({ form, says, words, about, refusals }) {
   const refused = refusals.length ? [`Refused: ${refusals.join(", ")}`] : [];
-  return entryOf(form, says, words.filter(isKind).map((kind) => [kind, about[kind]]), refused);
+  return entryOf(form, says, words.map((word, at) => [word, about[at]]).filter(([, told]) => told), refused);
 }
 
 function groupOf(label, entries) {

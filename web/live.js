@@ -64,17 +64,33 @@ export class Live {
       .map(([, state, id]) => ({ id, state }));
   }
 
+  // What a pattern finds in lines that have run and were granted, each beside the words of its reply.
+  #granted(pattern) {
+    const { state: { lines, position }, replies } = this.#session;
+    return lines.slice(0, position).map((line, at) => [pattern.exec(line), (replies[at] ?? "").split(/[ \n]+/)])
+      .filter(([found, [outcome]]) => found && outcome === "ok");
+  }
+
+  // The live tasks with their handles, and whether each has code of its own, by the lines that started them.
+  get started() {
+    const found = new Map(this.#granted(/^ *task +(\w+) +\d+(?: +(\w+))? *$/).map(([[, name, manner], [, handle]]) =>
+      [name, { name, handle, isRaw: manner === "raw" }]));
+    return this.tasks.map((name) => found.get(name)).filter(Boolean);
+  }
+
+  // The messages that a task with code of its own has taken, the last one first.
+  taken(task) {
+    return this.#granted(/^ *poll +(\w+) *$/).filter(([[, name], words]) => name === task && words[5] === "taken")
+      .map(([, [, , action, ref, , , , , data = ""]]) => ({ action, ref, data })).reverse();
+  }
+
   // The addresses in the module area that replies of the script gave, and that no `rma free` took back.
   get inModuleArea() {
-    const { lines, position } = this.#session.state;
     const found = new Set();
-    lines.slice(0, position).forEach((line, at) => {
-      const [, way, address] = /^ *rma +(\w+) +(\S+)/.exec(line) ?? [];
-      const [outcome, given] = (this.#session.replies[at] ?? "").split(" ");
-      if (way === undefined || outcome !== "ok") return;
+    for (const [[, way, address], [, given]] of this.#granted(/^ *rma +(\w+) +(\S+)/)) {
       if (way !== "claim") found.delete(address.toUpperCase());
       if (given) found.add(given);
-    });
+    }
     return [...found];
   }
 }

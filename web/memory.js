@@ -10,11 +10,11 @@ const NO_LINES = "Nothing has run yet. Type a command at the prompt, or load an 
 const NOTHING = "Nothing has run yet. Step runs the next command, Run all runs every line.";
 const NO_COMMAND = "No command has run yet: the lines that have run are remarks, or empty.";
 // What is told of a question, and of a command that is refused or bad.
-const ASKS = /^ *(?:areas|show|blocks|heap|status)(?: |$)/;
+const ASKS = /^ *(?:areas|show|blocks|heap|status|read)(?: |$)/;
 const STAYS = "Memory stays as it is.";
 const ASKED = "A question: memory stays as it is.";
 // A command by which a script sends messages.
-const SENDS = /^ *save /;
+const SENDS = /^ *(?:save|send|spool) /;
 const NO_DRAWING = "The module of this page draws no pictures.";
 
 // Why a session has no step to be shown.

@@ -102,8 +102,8 @@ export class Picture {
   #figure = document.createElement("div");
   #sheetStyle = new CSSStyleSheet();
   #styleText;
-  // Whether what has changed is to be brought into view, once that can be done; where the cards stand between which bytes
-  // go, if some do; and whether the figure may be seen gliding.
+  // Whether what has changed is to be brought into view, once that can be done; where the cards stand between which
+  // bytes go, if some do; and whether the figure may be seen gliding.
   #isDue = false;
   #ways = [];
   #glides = false;
@@ -195,8 +195,8 @@ export class Picture {
     this.#showPoolsEnd();
   }
 
-  // Where the pool is seen, scrolls it to its last page if that is due. Where what stands before the pool is out of sight
-  // then, its words are seen above. Gives whether the pool is seen.
+  // Where the pool is seen, scrolls it to its last page if that is due. Where what stands before the pool is out of
+  // sight then, its words are seen above. Gives whether the pool is seen.
   #showPoolsEnd() {
     const frame = this.#figure.querySelector(".pool");
     const lastCells = [...this.#figure.querySelectorAll("#grid .cells")].at(-1);

@@ -169,7 +169,8 @@ export class Prompt {
     }
     const at = typedWords(value).length - 1;
     const forms = formsFor(value);
-    const told = forms.length === 1 ? [element("span", "about", aboutWord(forms[0], value))] : [];
+    const abouts = new Set(forms.map((form) => aboutWord(form, value)));
+    const told = abouts.size === 1 ? [...abouts].map((it) => element("span", "about", it)) : [];
     const words = this.#offered?.words ?? (at > 0 && forms.length ? this.#fitting : []);
     this.#hint.replaceChildren(...forms.map((form) => formShown(form, at)), ...told, ...this.#buttons(words));
     if (!forms.length) this.#hint.textContent = "No command begins so.";

@@ -10,6 +10,9 @@ const BUFFER = `the bytes of its receive buffer, ${rangeOf("Buffer")}`;
 const NEW_TASK = { NAME: "a name that no live task has", BUF: BUFFER };
 const FREE_ANCHOR = `an anchor without a block, ${rangeOf("Anchor")}`;
 const IN_MODULE_AREA = { ADDR: "its address, as &1800014" };
+const IN_A_BLOCK = { ADDR: "an address in a block of the task, as &8114" };
+const RAW = { NAME: "a live task with code of its own" };
+const GETS_IT = { ...RAW, HANDLE: "the task that gets it, by its handle" };
 
 // The kinds of commands, as help shows them.
 const GROUPS_OF_KINDS = [
@@ -28,6 +31,8 @@ export const OF_ONE_FORM = {
   "task NAME BUF deaf": "Starts a task that ignores each file that it is offered.",
   "task NAME BUF file": "Starts a task that answers no RAMFetch: its files go by way of the scrap file.",
   "task NAME BUF raw": "Starts a task with code of its own: it takes messages, and you send its answers.",
+  "send NAME CODE HANDLE REF ACTION": "Sends a message of an action, with nothing behind that.",
+  "send NAME CODE HANDLE REF ACTION DATA": "Sends a message of an action, with words behind that.",
   "budge NAME on": "Lets the C heap grow: the flex blocks budge then.",
   "budge NAME off": "Forbids the C heap to grow.",
   "cancel NAME in": "Gives up the transfer that comes in.",
@@ -48,22 +53,32 @@ const ABOUT_WORDS = {
   DATA: "the words behind the action, in hexadecimal",
 };
 
-// The same where it isn't as usual.
+// The same where it isn't as usual. Of a word that stands twice in a form each has its own.
 const ABOUT_IN = {
   Task: NEW_TASK, Alloc: { A: FREE_ANCHOR }, Load: { A: FREE_ANCHOR },
   Put: { OFF: "where in the block the first byte goes" }, Extend: { N: "its new size in bytes" },
   Mid: { AT: "the offset", BY: "how many to put in, or with - to take out" },
-  Save: { TO: "the task that gets it" }, Remove: { K: `its number, ${rangeOf("MadeNumber")}` },
+  Save: { TO: "the task that gets it" }, Send: GETS_IT, Ack: RAW, Spool: GETS_IT, Scrap: { ...RAW, A: FREE_ANCHOR },
+  Transfer: { ...RAW, ADDR: ["where they are, as &8114", "where they go: what the other task has opened"],
+    HANDLE: "the task that gets them, by its handle" },
+  Read: IN_A_BLOCK, Write: { ...RAW, ...IN_A_BLOCK }, Remove: { K: `its number, ${rangeOf("MadeNumber")}` },
   RmaFree: IN_MODULE_AREA, RmaResize: IN_MODULE_AREA,
 };
 
-// The forms of a kind of command: the words of each, what it does, what its words are, and why it may be refused.
+// What the word at a place of a form stands for, if that stands for others.
+function aboutAt(kind, words, at) {
+  const word = words[at];
+  const said = ABOUT_IN[kind]?.[word] ?? ABOUT_WORDS[word];
+  return Array.isArray(said) ? said[words.slice(0, at).filter((it) => it === word).length] : said;
+}
+
+// The forms of a kind of command: the words of each, what it does, what each word is, and why it may be refused.
 function formsOf(kind) {
   const { forms, does, refusals } = SENTENCES.commands[kind];
   return forms.map((form) => {
     const words = form.split(" ");
-    const about = words.filter(isKind).map((word) => [word, ABOUT_IN[kind]?.[word] ?? ABOUT_WORDS[word]]);
-    return { form, words, says: OF_ONE_FORM[form] ?? does, about: Object.fromEntries(about), refusals };
+    const about = words.map((_, at) => aboutAt(kind, words, at));
+    return { form, words, says: OF_ONE_FORM[form] ?? does, about, refusals };
   });
 }
 

@@ -46,7 +46,7 @@ def check_at_first(bench):
         same(page.value(f"{fields}.map((it) => [it.min, it.max, it.accept])"),
              [["", "", ".desk,.txt,text/plain"], ["8", "1024", ""], ["", "", ""]], "what fields take")
         same(page.value("[...document.querySelectorAll('#lessons button')].map((it) => it.innerText.split('\\n')[0])"),
-             list("123456"), "the lessons that are offered")
+             list("1234567"), "the lessons that are offered")
         same(page.value("[...document.querySelector('#examples').selectedOptions].map((it) => [it.value, it.text])"),
              [["", "Lessons and examples…"]], "what stands where examples are chosen")
         for name in BUTTONS:
@@ -134,10 +134,12 @@ def check_place(bench):
         page.click("back")
         page.focus("#command")
         page.tab.type("s")
-        same(page.value("document.querySelectorAll('#hint code').length"), 3, "how many forms there are")
+        offered = sorted(it for it in forms_of_docs() if it.startswith("s"))
+        told = "[...document.querySelectorAll('#hint code')].map((it) => it.textContent)"
+        same([sorted(page.value(told)), len(offered)], [offered, 7], "the forms that are told")
         for modifiers in ((), ("Shift",)):
             page.tab.key("F8", *modifiers)
-            same(page.value("document.querySelectorAll('#hint code').length"), 3, "how many there are after a step")
+            same(sorted(page.value(told)), offered, "the forms that are told after a step")
         page.tab.key("Escape")
         same(page.text("hint"), "A command goes in behind line 6.", "the hint after Escape")
 

@@ -31,26 +31,36 @@ const ANSWERS = {
 };
 const LIVE_LINES = ["rma claim 8", "rma claim 9", "rma free &1800014", "rma resize &1800024 90", "rma claim 0"];
 const LIVE_REPLIES = ["ok &1800014", "ok &1800024", "ok", "ok &1800044", "refused BadSize"];
+// The same, where Other has code of its own and has taken messages: one of an action that no other task knows, and two
+// with data. A task that was ended had its name before; and what was refused, or isn't taken, is none.
+const RAW_LINES = ["task Other 5", "kill Other", "task a 5", "task Other 1 raw", "task gone 1 raw", "task a 5 raw",
+  "poll Other", "poll Other", "poll Other", "poll a", "poll Other", "areas"];
+const RAW_REPLIES = ["ok 1", "ok", "ok 2", "ok 3", "ok 4", "refused NameInUse", "ok 17 99 1 0 taken\n  from 2 00000000",
+  "ok 18 DataSave 2 0 taken\n  from 2 0000", "ok 18 RAMFetch 5 4 taken\n  from 2 14810000",
+  "ok 18 RAMFetch 6 5 sent 4 7", "ok 0", "ok 50"];
 
-function liveSession() {
+function liveSession(lines = LIVE_LINES, replies = LIVE_REPLIES) {
   const notes = [];
-  const state = { lines: LIVE_LINES, position: LIVE_LINES.length };
+  const state = { lines, position: lines.length };
   const ask = (question) => {
     notes.push(question);
     return ANSWERS[question] ?? "refused NoName";
   };
-  return { notes, state, replies: LIVE_REPLIES, asked: ask };
+  return { notes, state, replies, asked: ask };
 }
 
 const FILES = [{ name: "logo", bytes: new Uint8Array(7) }];
-const wordsFor = (line, files = FILES) => candidates(line, new Live(liveSession()), files).map(({ word }) => word);
+const wordsIn = (session, line, files = FILES) => candidates(line, new Live(session), files).map(({ word }) => word);
+const wordsFor = (line) => wordsIn(liveSession(), line);
+const wordsOfRaw = (line) => wordsIn(liveSession(RAW_LINES, RAW_REPLIES), line);
 
 const WORDS_TESTS = {
   "each form of a command is told with the words that it has"() {
-    same([FORMS.length, new Set(FORMS.map(({ form }) => form)).size], [33, 33]);
+    same([FORMS.length, new Set(FORMS.map(({ form }) => form)).size], [42, 42]);
     for (const { words, about, says } of FORMS) {
-      same(Object.keys(about), words.filter(isKind));
-      same(Object.values(about).filter((it) => it.length < 5), []);
+      same(about.map((it) => it !== undefined), words.map(isKind));
+      same(about.filter((it) => it?.length < 5), []);
+      same(new Set(about.filter(Boolean)).size, words.filter(isKind).length);
       const unknown = words.slice(1).filter((word) => /^[A-Z]+$/.test(word) && !isKind(word));
       same([unknown, /^[A-Z].*\.$/.test(says)], [[], true]);
     }
@@ -76,6 +86,9 @@ const WORDS_TESTS = {
     same(toldOf("poll a", "ok 0")[0], "No message waits for it.");
     same(toldOf("poll a", "ok 18 DataSave 1 0 fetch 2")[0],
       "It takes DataSave 1, which wants an answer. A transfer begins: RAMFetch 2 asks for the first bytes.");
+    same(["ok 17 99 4 0 taken\n  from 2 00", "ok 19 99 4 0 taken"].map((reply) => toldOf("poll a", reply)[0]),
+      ["It takes message 4 of action 99, which wants no answer. Its own code has the message now.",
+        "Its message 4 of action 99 comes back: nobody has answered it. Its own code has the message now."]);
     same(toldOf("poll a", "ok 17 RAMTransmit 7 6 took 1 done")[0],
       "It takes RAMTransmit 7, which wants no answer. It moves 1 byte into the document, which is whole now.");
     same(toldOf("poll a", "ok 19 RAMFetch 4 3 failed")[0],
@@ -131,6 +144,15 @@ const WORDS_TESTS = {
         "alloc a 0 1000", undefined, undefined, "mid a 0 5 1000", "area 1 -4096"]);
     same(toldOf("alloc a 64 5", "bad Word 3")[0], 'Word 3 "64": an anchor is 0 to 63.');
   },
+  "numbers and words of a message become what was meant"() {
+    const found = [["send a 18 &2 0 1", "Word 4"], ["send a 18 2 0 &80146", "Word 6"], ["send a 19 2 0 1", "Word 3"],
+      ["send a 18 2 0 1 0x14810000", "Word 7"], ["send a 18 2 0 1 148100", "Word 7"],
+      ["send a 18 2 0 1 hello", "Word 7"], ["send a 18 2 0 1 14810000 04000000", "Count"],
+      ["send a 18 2 0 1 0 0", "Count"], ["send a 18 2", "Count"]];
+    same(found.map(([line, reply]) => fixOf(line, `bad ${reply}`)?.replace("send a 18 ", "")),
+      ["2 0 1", "2 0 524614", undefined, "2 0 1 14810000", undefined, undefined, "2 0 1 1481000004000000", undefined,
+        undefined]);
+  },
   "a text becomes its bytes, and bytes that are parted are joined"() {
     const found = [["put a 0 0 hello", "Word 5"], ["put a 0 0 'hi'", "Word 5"], ["put a 0 0 0x6869", "Word 5"],
       ["put a 0 0 68:69", "Word 5"], ["put a 0 0 abc", "Word 5"], ["put a 0 0 68 69 6a", "Count"],
@@ -144,7 +166,8 @@ const WORDS_TESTS = {
     same(toldOf("rma clam 5", "bad Word 2"), ['Word 2 "clam": this word is claim, free or resize.', "rma claim 5"]);
     same(toldOf("rma", "bad Count")[0], "Expected rma claim N, rma free ADDR or rma resize ADDR DELTA.");
     same(toldOf("rma free", "bad Count")[0], "Expected rma free ADDR.");
-    same(toldOf("task a", "bad Count")[0], "Expected task NAME BUF, task NAME BUF deaf or task NAME BUF file.");
+    same(toldOf("task a", "bad Count")[0],
+      "Expected task NAME BUF, task NAME BUF deaf, task NAME BUF file or task NAME BUF raw.");
     same(toldOf("task 1a 5", "bad Word 2")[0], 'Word 2 "1a": a name is a letter, then up to 11 letters or digits.');
     same(toldOf(`kill ${"b".repeat(17)}`, "bad Word 2")[0],
       `Word 2 "${"b".repeat(16)}..": a name is a letter, then up to 11 letters or digits.`);
@@ -196,11 +219,28 @@ const WORDS_TESTS = {
       [["0", "1", "256"], ["256"], ["claim", "free", "resize"], ["&1800044"]]);
     same([wordsFor("areas "), wordsFor("nothing "), wordsFor("free a 0 "), wordsFor("kill a")], [[], [], [], []]);
   },
+  "words of tasks with code of their own are completed by what is live"() {
+    same([wordsOfRaw("send "), wordsOfRaw("ack "), wordsOfRaw("read "), wordsOfRaw("save "), wordsOfRaw("poll ")],
+      [["Other"], ["Other"], ["a", "Other"], ["a"], ["a", "Other"]]);
+    same([wordsOfRaw("send Other "), wordsOfRaw("send Other 18 "), wordsOfRaw("send Other 18 2 ")],
+      [["17", "18"], ["2"], ["5", "2", "1", "0"]]);
+    same([wordsOfRaw("send Other 18 2 5 "), wordsOfRaw("spool Other 0 "), wordsOfRaw("spool Other 0 2 ")],
+      [["1", "2", "3", "4", "6", "7"], ["2"], ["5", "2", "1", "0"]]);
+    same([wordsOfRaw("send Other 17 2 5 7 "), wordsOfRaw("send Other 17 2 4 7 "), wordsOfRaw("send Other 18 2 2 6 ")],
+      [["14810000"], [], []]);
+    same([wordsOfRaw("send a 18 3 2 6 "), wordsOfRaw("read a ")],
+      [["1481000014000000", "4481000014000000"], ["&8114", "&8144", "&9008", "&9018"]]);
+    same([wordsOfRaw("transfer Other &8114 2 "), wordsOfRaw("transfer Other &8114 9 "), wordsOfRaw("scrap a ")],
+      [["&8114", "&8144", "&9008", "&9018"], [], ["1"]]);
+    same([wordsFor("send "), wordsFor("send a 18 "), wordsFor("send a 18 1 ")], [[], [], ["0"]]);
+  },
   "the word that is being typed is told"() {
     const about = (line) => aboutWord(FORMS.find(({ form }) => line.startsWith(form.split(" ")[0])), line);
     same([about("kill "), about("alloc a "), about("claim a 1"), about("areas")],
       ["NAME: a live task", "A: an anchor without a block, 0 to 63", "N: how many bytes",
         "Asks for the free pages, and for those of each area and each slot."]);
+    same([about("transfer a "), about("transfer a &8114 2 ")],
+      ["ADDR: where they are, as &8114", "ADDR: where they go: what the other task has opened"]);
   },
   "a remark is told until the next one, and a title at its command alone"() {
     const lines = ["# one", "# two", "a", "#picture First", "b", "c", "", "# three", "#picture Second", "d", "e"];
