@@ -21,6 +21,11 @@ SECONDS = 240
 # So long a page may take until something holds.
 WAITED = 60
 MODIFIERS = {"Alt": 1, "Control": 2, "Meta": 4, "Shift": 8}
+# Waits until a page is so large and has heard of that, as it has before each frame that it draws.
+IS_SO_LARGE = """new Promise((done) => {
+  const look = () => requestAnimationFrame(innerWidth === %d && innerHeight === %d ? done : look);
+  look();
+}).then(() => 0)"""
 KEY_CODES = {"Enter": 13, "Escape": 27, "Tab": 9, "Backspace": 8, "ArrowUp": 38, "ArrowDown": 40, "ArrowLeft": 37,
              "ArrowRight": 39, "F1": 112, "F8": 119, "F9": 120, "Delete": 46, "End": 35, "Home": 36, " ": 32, "z": 90,
              "Z": 90, "y": 89}
@@ -123,7 +128,7 @@ class Tab:
 
     def __init__(self, browser, target, session, address, before):
         self.browser, self.target, self.session = browser, target, session
-        self.faults, self.is_loaded = [], False
+        self.faults, self.is_loaded, self.count = [], False, 0
         self.downloads = pathlib.Path(tempfile.mkdtemp(dir=browser.folder.name))
         browser.tabs[session] = self
         for domain in ("Runtime", "Page", "Log", "DOM"):
@@ -143,6 +148,8 @@ class Tab:
             self.faults.append(details.get("exception", {}).get("description") or details["text"])
         if event == "Log.entryAdded" and words["entry"]["level"] == "error":
             self.faults.append(words["entry"]["text"])
+        if event == "Page.frameNavigated" and "parentId" not in words["frame"]:
+            self.count, self.is_loaded = self.count + 1, False
         self.is_loaded |= event == "Page.loadEventFired"
 
     def come_forward(self):
@@ -156,6 +163,14 @@ class Tab:
         self.is_loaded = False
         self.call("Page.navigate", url=address)
         self.wait(lambda: self.is_loaded or self.value("document.readyState") == "complete", f"{address} isn't loaded")
+
+    def load_again(self):
+        """Loads the page again, and waits for the one that comes. Nothing is asked of the one that goes: it may have no
+        answer."""
+        count = self.count
+        self.call("Page.reload")
+        self.wait(lambda: self.browser.call("Browser.getVersion") and self.count > count and self.is_loaded,
+                  "the page isn't loaded again")
 
     def wait(self, test, fault):
         """Waits until a test holds."""
@@ -175,8 +190,10 @@ class Tab:
 
     def resize(self, width, height, is_dark=False, scale=1):
         """Makes the window so large, and light or dark; at a greater scale a page sees fewer units."""
-        self.call("Emulation.setDeviceMetricsOverride", width=int(width / scale), height=int(height / scale),
-                  deviceScaleFactor=scale, mobile=False)
+        sides = int(width / scale), int(height / scale)
+        self.call("Emulation.setDeviceMetricsOverride", width=sides[0], height=sides[1], deviceScaleFactor=scale,
+                  mobile=False)
+        self.value(IS_SO_LARGE % sides)
         self.call("Emulation.setEmulatedMedia",
                   features=[{"name": "prefers-color-scheme", "value": "dark" if is_dark else "light"}])
 

@@ -20,11 +20,14 @@ SEEN_HEIGHTS = """((names) => [names.map((name) => {
 }), scrollY, document.documentElement.scrollHeight - innerHeight])"""
 # Words that stand in place of those of a form.
 SAMPLES = {"NAME": "a", "TO": "b", "FILE": "f", "A": "0", "BUF": "9", "N": "5", "OFF": "0", "AT": "0", "DELTA": "-4",
-           "BY": "4", "K": "256", "MAX": "4", "ID": "1", "ADDR": "&8114", "HEX": "6869", "LEAF": "x!"}
+           "BY": "4", "K": "256", "MAX": "4", "ID": "1", "ADDR": "&8114", "HEX": "6869", "LEAF": "x!", "CODE": "18",
+           "HANDLE": "1", "REF": "0", "ACTION": "524614", "DATA": "1481000004000000"}
 # Words that a form of each kind doesn't take.
 OTHERS = {"NAME": "1a", "TO": "a-b", "FILE": "x" * 13, "A": "64", "BUF": "0", "N": "-1", "OFF": "2147483648", "AT": "x",
           "DELTA": "+4", "BY": "&4", "K": "65536", "MAX": "1025", "ID": "0", "ADDR": "8114", "HEX": "6",
-          "LEAF": "x" * 11}
+          "LEAF": "x" * 11, "CODE": "19", "HANDLE": "0", "REF": "-1", "ACTION": "4294967296", "DATA": "010203"}
+# What a system has that asks for less motion.
+LESS_MOTION = [{"name": "prefers-reduced-motion", "value": "reduce"}]
 WHY = "[...document.querySelectorAll('#lines > li')].map((it) => it.querySelector('.why').textContent)"
 FIXES = "[...document.querySelectorAll('#lines .fix')].map((it) => it.textContent)"
 WORDS = "[...document.querySelectorAll('#hint .word')].map((it) => it.textContent)"
@@ -256,16 +259,20 @@ def check_numbers_of_chart(bench):
 
 def check_stillness(bench):
     """Of a question, and of a command that is refused or bad, it is told that memory stays; of no other one."""
-    script = (b"task a 9\nareas\nclaim a 20\nheap a\nblocks a\nstatus a\nalloc a 0 5\nshow a 0\npoll a\nrelease a &9\n"
-              b"heaps a\n")
+    script = (b"task a 9\nareas\nclaim a 20\nheap a\nblocks a\nstatus a\nalloc a 0 5\nshow a 0\nread a &9008 5\n"
+              b"extend a 0 5\npoll a\nrelease a &9\nread a &9008 6\nheaps a\n")
     asked, stays = "A question: memory stays as it is.", "Memory stays as it is."
-    wanted = [None, asked, "", asked, asked, asked, None, asked, "", stays, stays]
+    # Of those with None something is told that has changed; of those with an empty text nothing at all.
+    wanted = [None, asked, None, asked, asked, asked, None, asked, asked, "", "", stays, stays, stays]
     with bench.kept_page() as page:
         page.drop_bytes("a.desk", script)
         for number, told in enumerate(wanted, 1):
             page.click("step")
             found = page.text("changes")
-            same(found if told is not None else bool(found), told if told is not None else True, f"what {number} tells")
+            if told is None:
+                holds(found and asked not in found and stays not in found, f"{number} tells {found!r} of a change")
+            else:
+                same(found, told, f"what {number} tells")
         page.value("document.querySelector('[value=map]').click()")
         same(page.seen("changes"), [], "what is told beside a map")
 
@@ -342,7 +349,7 @@ def check_movement(bench):
         same(budged, [["flex block 0, &A008, 100 bytes", "150px 115px 27px", "150px 85px 27px"],
                       ["flex block 1, &A074, 100 bytes", "177px 115px 27px", "177px 85px 27px"]], "what budges")
         page.enter("alloc a 2 5")
-        page.tab.call("Emulation.setEmulatedMedia", features=[{"name": "prefers-reduced-motion", "value": "reduce"}])
+        page.tab.call("Emulation.setEmulatedMedia", features=LESS_MOTION)
         same([moving("#back"), moving("#step")], [[], []], "what moves where less motion is asked for")
         page.tab.call("Emulation.setEmulatedMedia", features=[])
 
@@ -377,7 +384,7 @@ def check_fading(bench):
                       "what is gone stays over the picture")
         [hole] = page.value(FADING % ("#back", ".used"))
         same(hole[:4], ["hole", 150 + 146, 3, 78], "what fades on the way back")
-        page.tab.call("Emulation.setEmulatedMedia", features=[{"name": "prefers-reduced-motion", "value": "reduce"}])
+        page.tab.call("Emulation.setEmulatedMedia", features=LESS_MOTION)
         same(page.value(FADING % ("#step", ".hole")), [], "what fades where less motion is asked for")
         page.tab.call("Emulation.setEmulatedMedia", features=[])
 
@@ -414,28 +421,32 @@ FLYING = """(async (button) => {
 
 WRITER, BUFFER, READER = (f"The slot of {it}" for it in ("writer, anchor 0 &9008", "reader, buffer &8114",
                                                          "reader, anchor 0 &9008"))
-# At which lines of the lesson which bytes go from which card to which one.
+A, B_BUFFER, B = (f"The slot of {it}" for it in ("a, anchor 0 &9008", "b, buffer &8114", "b, anchor 0 &9008"))
+# At which lines of a lesson which bytes go from which card to which one.
 WAYS = {12: ("let", WRITER, BUFFER), 15: ("let", BUFFER, READER), 17: ("ter", WRITER, BUFFER),
         18: ("ter", BUFFER, READER), 21: ("s", WRITER, BUFFER), 25: ("s", BUFFER, READER)}
+WAYS_BESIDE_FORGERY = {17: ("RISC", A, B_BUFFER), 18: ("RISC", B_BUFFER, B), 19: ("OS", A, B_BUFFER),
+                       21: ("OS", B_BUFFER, B)}
 
 
 def check_flight(bench):
-    """Bytes that a step copies fly from document to buffer, and from buffer to document; not on the way back, nor where
-    less motion is asked for; nothing stays of them."""
-    flown = {at: [[it, source, target, 40 * count] for count, it in enumerate(word)]
-             for at, (word, source, target) in WAYS.items()}
+    """Bytes that a step copies fly from document to buffer, and from buffer to document; none at a forged message, on
+    the way back, or where less motion is asked for; nothing stays of them."""
     with bench.kept_page() as page:
-        page.load("lessons/small-buffer")
-        seen = {}
-        while "step" not in page.disabled():
-            found = page.value(FLYING % "#step")
-            line = int(page.value("document.querySelector('#shown b').textContent"))
-            seen |= {line: found} if found else {}
-        same(seen, flown, "which bytes fly at which lines")
+        for name, ways in (("forged", WAYS_BESIDE_FORGERY), ("small-buffer", WAYS)):
+            flown = {at: [[it, source, target, 40 * count] for count, it in enumerate(word)]
+                     for at, (word, source, target) in ways.items()}
+            page.load(f"lessons/{name}")
+            seen = {}
+            while "step" not in page.disabled():
+                found = page.value(FLYING % "#step")
+                line = int(page.value("document.querySelector('#shown b').textContent"))
+                seen |= {line: found} if found else {}
+            same(seen, flown, f"which bytes fly at which lines of {name}")
         page.tab.wait(lambda: page.value("!document.querySelector('#picture').shadowRoot.querySelector('.flying')"),
                       "bytes stay over the picture")
         same(page.value(FLYING % "#back"), [], "what flies on the way back")
-        page.tab.call("Emulation.setEmulatedMedia", features=[{"name": "prefers-reduced-motion", "value": "reduce"}])
+        page.tab.call("Emulation.setEmulatedMedia", features=LESS_MOTION)
         same(page.value(FLYING % "#step"), [], "what flies where less motion is asked for")
         page.tab.call("Emulation.setEmulatedMedia", features=[])
 
@@ -460,10 +471,9 @@ CHANGED_IN_SIGHT = """((source, target) => {
 def check_changed_in_sight(bench):
     """What a step has changed is in sight, and so are both cards between which bytes go, wide and on a phone."""
     with bench.kept_page() as page:
-        page.tab.call("Emulation.setEmulatedMedia", features=[{"name": "prefers-reduced-motion", "value": "reduce"}])
         for width, height, *names in ((1280, 720, "small-buffer", "death", "sliding"), (390, 844, "small-buffer")):
-            page.tab.call("Emulation.setDeviceMetricsOverride", width=width, height=height, deviceScaleFactor=1,
-                          mobile=False)
+            page.tab.resize(width, height)
+            page.tab.call("Emulation.setEmulatedMedia", features=LESS_MOTION)
             for name in names:
                 page.load(f"lessons/{name}")
                 while "step" not in page.disabled():
@@ -570,26 +580,21 @@ def check_entered_link(bench):
         same(lines(page)[1], "#script", "a remark that is no link")
 
 
-# Puts a page into a frame of another one, and waits a while until it has begun; gives whether it has.
-FRAMED = """new Promise((done) => {
+# Puts a page into a frame of another one; and whether it has begun there.
+FRAMED = """(() => {
   const frame = document.createElement('iframe');
   frame.srcdoc = %s;
   document.body.append(frame);
-  let left = 300;
-  const look = () => {
-    const hasBegun = frame.contentDocument?.querySelector('#desk')?.hidden === false;
-    if (hasBegun || left-- === 0) done(hasBegun);
-    else setTimeout(look, 30);
-  };
-  look();
-})"""
+})()"""
+HAS_BEGUN = "document.querySelector('iframe').contentDocument?.querySelector('#desk')?.hidden === false"
 
 
 def check_in_frame(bench):
     """In a frame without an address of its own the page runs, and copies the end of a link without a fault."""
     inside = "document.querySelector('iframe').contentDocument.querySelector"
     tab = bench.browser.open("about:blank")
-    holds(tab.value(FRAMED % json.dumps(make.page_of(bench.content))), "the page doesn't begin in a frame")
+    tab.value(FRAMED % json.dumps(make.page_of(bench.content)))
+    tab.wait(lambda: tab.value(HAS_BEGUN), "the page doesn't begin in a frame")
     tab.value(f"{inside}('#command').value = 'areas'; {inside}('#prompt').requestSubmit(); {inside}('#copy').click()")
     tab.wait(lambda: tab.value(f"{inside}('#notice').textContent"), "nothing is told of a link")
     told = tab.value(f"{inside}('#notice').textContent")

@@ -15,10 +15,7 @@ TOO_LONG = b"# remark\n" * 200_000
 
 def load_again(page):
     """Loads the tab again, and waits for the page that comes."""
-    page.value("document.body.dataset.old = 1")
-    page.tab.call("Page.reload")
-    page.tab.wait(lambda: page.value("document.readyState === 'complete' && !document.body.dataset.old"),
-                  "the tab isn't loaded again")
+    page.tab.load_again()
     page.ready()
 
 

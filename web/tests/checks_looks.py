@@ -32,7 +32,8 @@ GROUPS = {"region": ["Story", "Script", "Memory", "Messages"], "list": ["Files t
 # The headings of the page with their levels, and its parts as those who listen go from one to the next.
 HEADINGS = {"Vervainfile": 1, "Commands": 2, "Keys": 2, "What is proved": 2, "Script": 2, "Memory": 2,
             "The memory of a small desktop": 2, "Tasks": 3, "Flex blocks": 3, "C heap": 3, "Files handed over": 3,
-            "Areas of pages": 3, "Refusals: a command that is refused changes nothing": 3}
+            "Tasks with code of their own": 3, "Areas of pages": 3,
+            "Refusals: a command that is refused changes nothing": 3}
 LANDMARKS = [("banner", ""), ("contentinfo", ""), ("main", ""), ("region", "Commands"), ("region", "Memory"),
              ("region", "Script")]
 # What the fields of the page are to those who listen.
@@ -166,7 +167,6 @@ def check_widths(bench):
         show_story(page)
         for width, scale in WINDOWS:
             page.tab.resize(width, 900, False, scale)
-            page.value("new Promise(requestAnimationFrame).then(() => 0)")
             over = page.value("document.documentElement.scrollWidth - document.documentElement.clientWidth")
             same(over, 0, f"what goes over the edge at {width}, {scale * 100} percent")
             bench.picture(page, f"at-{width}-{scale * 100}-percent")
@@ -187,7 +187,6 @@ def check_long_words(bench):
             page.value(f"document.querySelector('[value={view}]').click()")
             for width, scale in WINDOWS:
                 page.tab.resize(width, 900, False, scale)
-                page.value("new Promise(requestAnimationFrame).then(() => 0)")
                 over = page.value("[document.documentElement, document.querySelector('#scroller')]"
                                   ".map((it) => it.scrollWidth - it.clientWidth)")
                 same(over, [0, 0], f"what goes over edges at {width}, {scale * 100} percent, with a {view}")

@@ -253,10 +253,10 @@ def check_loaded_again(bench):
     with bench.page() as page:
         page.load("hello")
         page.click("step")
-        page.tab.call("Page.reload")
-        page.tab.wait(lambda: page.value("document.querySelectorAll('#lines > li').length") == 7, "the script is lost")
-        same([page.text("progress"), page.value("document.querySelector('#name').value")],
-             ["2 of 7 lines have run", "hello.desk"], "what is left")
+        page.tab.load_again()
+        page.ready()
+        same([len(page.rows()), page.text("progress"), page.field("name")], [7, "2 of 7 lines have run", "hello.desk"],
+             "what is left")
     with bench.page() as page:
         same(page.rows(), [], "the lines of another tab")
 

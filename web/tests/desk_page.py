@@ -9,8 +9,6 @@ TESTS = pathlib.Path(__file__).resolve().parent
 # What a page shows of its lines: each line's text, its reply, and its classes.
 ROWS = """[...document.querySelectorAll('#lines > li')].map((row) => ({
   line: row.querySelector('textarea').value, reply: row.querySelector('.reply').textContent, kind: row.className}))"""
-# What is another one after a script or a file was taken.
-SHOWN = "document.querySelector('#name').value + document.querySelector('#files').textContent"
 
 # Puts all back that a user may have changed.
 AT_FIRST = """(() => {
@@ -108,10 +106,9 @@ class DeskPage:
 
     def drop_bytes(self, name, content, test=None):
         """Drops a file, and gives the seconds until a test holds, or until it is taken or refused."""
-        before = json.dumps(self.value(SHOWN))
-        test = test or f"{SHOWN} !== {before} || document.querySelector('#notice').textContent"
         text = (TESTS / "drop.js").read_text()
-        words = f"{json.dumps(name)}, {json.dumps(base64.b64encode(content).decode())}, () => {test}"
+        words = f"{json.dumps(name)}, {json.dumps(base64.b64encode(content).decode())}"
+        words += f", () => {test}" if test else ""
         return self.value(f"{text[text.index('(async'):].strip()}({words})")
 
     def set_value(self, selector, value):
