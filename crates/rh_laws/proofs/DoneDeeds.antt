@@ -1,27 +1,33 @@
 -- What a message that was handled leaves of transfers whose sender's record says Done.
-use Rattle.rh_laws.proofs.Common.{Active, Ascend, Has, List, None, Option, Sending, Some, Taking, [], ap, arith, eqb_tells, false, inl, inr, none_some, out_id}
-use Rattle.rh_laws.proofs.Common.{put_same, refl, subst, sym, true, ℕ, ◌++◌, ◌+◌, ◌<◌, ◌∙◌, ◌∷◌, ◌≡◌, ◌≢◌, ◌≤◌, ◌⊎◌}
-use Rattle.rh_safety.proofs.Basics.{Has-append, Has-left, Has-right, one_of_id}
+use Rattle.rh_laws.proofs.Common.{Active, Ascend, Bool, Has, List, None, Option, Sending, Some, Taking, [], ap, arith, eqb_tells, false, inl, inr, none_some}
+use Rattle.rh_laws.proofs.Common.{out_id}
+use Rattle.rh_laws.proofs.Common.{refl, subst, sym, true, ℕ, ◌++◌, ◌+◌, ◌<◌, ◌∙◌, ◌∷◌, ◌≡◌, ◌≤◌, ◌⊎◌}
+use Rattle.rh_safety.specs.RawIds.{Gave}
+use Rattle.rh_safety.proofs.Basics.{Has-left, Has-right, one_of_id}
 use Rattle.rh_safety.proofs.Ends.{Asking, DataLoadAck, DataSave, Draining, Fetching, In, In_done, In_failed, Kind, Letter, Message, Open, Out, Out_done}
-use Rattle.rh_safety.proofs.Ends.{Out_failed, Plain, RamFetch, RamTransmit, Returned, in_id, is_going, put}
+use Rattle.rh_safety.proofs.Ends.{Out_failed, Plain, RamFetch, RamTransmit, Returned, in_id, is_going}
 use Rattle.rh_safety.proofs.Invariant.{IsLive, Known, Knows, Unread}
 use Rattle.rh_safety.proofs.Polls.{Waiter}
-use Rattle.rh_safety.proofs.Sends.{sent_knows, still_is}
-use Rattle.rh_safety.proofs.Sight.{Desk, Scrap, sent, still_held, would_answer}
-use Rattle.rh_laws.proofs.Dones.{AllEnd, Begun, Ends, Final, IsActive, IsFirst, IsQueued, Matched, Silent, ends-map}
-use Rattle.rh_laws.proofs.WantDeeds.{Before, Deed, Goes, Last, Meets, Origin, Replying, Sends, Turns, new, spent, was}
+use Rattle.rh_safety.proofs.Sight.{Desk, Scrap, would_answer}
+use Rattle.rh_laws.proofs.Dones.{AllEnd, Begun, Ends, Final, IsActive, IsFirst, IsQueued, Matched, Unbegun, ends-map}
+use Rattle.rh_laws.proofs.PlayedDeeds.{Mute, Took, knows-after, sent-live}
+use Rattle.rh_laws.proofs.WantDeeds.{Deed, Goes, Last, Meets, Origin, Replying, Turns, new, was}
 use Rattle.rh_laws.proofs.WantEdits.{For, after, answer}
 use Rattle.rh_laws.proofs.Wants.{HasWant, Want, part, want_in}
 
 -- what is known of the message that task k took: nothing answers it, and no live message has its ref but what the task holds
-pub record Heard (d : Desk) (k : ℕ) (m : Message) : Type 0 where
-  pub mute : (m.letter.kind ≡ DataLoadAck → ⊥) → Silent d m.letter.me
-  pub queue : Unread m → (y : Message) → Has y d.queue → y.letter.me ≢ m.letter.me
-  pub hand : Unread m → (j : ℕ) (y : Message) → d.held j ≡ Some y → y.letter.me ≡ m.letter.me → j ≡ k
-  pub answers : Unread m → IsLive d.queue d.held m.letter.answers → ⊥
+pub record Heard (P : ℕ → Type 0) (R : Gave) (d : Desk) (k : ℕ) (m : Message) : Type 0 where
+  pub lives : d.live k ≡ true
+  pub plays : d.raw k ≡ false
+  pub mute : (m.letter.kind ≡ DataLoadAck → ⊥) → R m.letter.me ≡ false → Mute R d m.letter.me
+  -- an offer isn't answered before it is taken
+  pub offer : Unread m → m.letter.kind ≡ DataSave → R m.letter.me ≡ false → (s n : ℕ) → Has (Out_done m.letter.me n) (d.sending s) → ⊥
+  pub answers : Unread m → (x : Sending) → Has (Open x) (d.sending k) → m.letter.answers ≡ x.last → m.letter.from ≡ x.recipient → P x.id →
+      IsLive d.queue d.held m.letter.answers → ⊥
   -- a fetch that a record answers is its receiver's own
   pub waiter : (x : Sending) → Has (Open x) (d.sending k) → m.letter.kind ≡ RamFetch → would_answer m.letter x ≡ true → d.file k ≡ false →
-      d.live x.recipient ≡ true → Unread m → (a : Waiter d k x m.letter) × (m.letter.me ≡ a.taking.fetch)
+      d.live x.recipient ≡ true → Unread m → (r : ℕ) (w : In) → Has w (d.taking r) → in_id w ≡ x.id →
+      (a : Waiter d k x m.letter) × (m.letter.me ≡ a.taking.fetch)
   -- where it tells that a file was loaded, the records of the transfer have ended
   pub told : Unread m → m.letter.kind ≡ DataLoadAck → (x : Sending) → Has (Open x) (d.sending k) → m.letter.answers ≡ x.last →
       m.letter.from ≡ x.recipient → (r : ℕ) (w : In) → Has w (d.taking r) → in_id w ≡ x.id → is_going w ≡ false
@@ -29,24 +35,24 @@ pub record Heard (d : Desk) (k : ℕ) (m : Message) : Type 0 where
   -- its bytes are no more than what a sender that says Done has sent
   pub carried : (f : Taking) → Has (Fetching f) (d.taking k) → m.letter.kind ≡ RamTransmit → Unread m → m.letter.from ≡ f.sender →
       m.letter.answers ≡ f.fetch → (s n : ℕ) → Has (Out_done f.id n) (d.sending s) → f.count + m.letter.amount ≤ n
+  -- where it is theirs, no record comes in of a transfer to its sender
+  pub nobody : Unread m → (x : Sending) → Has (Open x) (d.sending k) → m.letter.from ≡ x.recipient → R m.letter.me ≡ true → (r : ℕ) (w : In) → Has w
+      (d.taking r) →
+      in_id w ≡ x.id → ⊥
+  -- whose message it is, whose a sender's letters are, and whose its transfers
+  pub filler : Unread m → (f : Taking) → Has (Fetching f) (d.taking k) → m.letter.from ≡ f.sender → R f.id ≡ false → R m.letter.me ≡ false
+  pub senders : (l : Letter) → Knows d l → (s : ℕ) (v : Out) → Has v (d.sending s) → l.from ≡ s → R l.me ≡ false
+  pub out_ids : (s : ℕ) (v : Out) → Has v (d.sending s) → R (out_id v) ≡ false
 
 -- what holds once the message was taken
-pub record Taken (d : Desk) (k : ℕ) (m : Message) : Type 0 where
-  pub first : IsFirst d
+pub record Taken (P : ℕ → Type 0) (C : ℕ → Bool) (R : Gave) (d : Desk) (k : ℕ) (m : Message) : Type 0 where
+  pub unbegun : Unbegun P d
+  pub first : IsFirst R d
   pub ends : AllEnd (λ y. Has y d.queue ⊎ (m ≡ y)) d
-  pub heard : Heard d k m
-  pub before : Before d k m
+  pub heard : Heard P R d k m
+  pub before : Took C R d k m
   pub outs : (s : ℕ) (v : Out) → Has v (d.sending s) → out_id v < d.next_ref
   pub ascends : (r : ℕ) → Ascend in_id (d.taking r)
-
--- a message that is answered is held no more
-still-gone : (o : Option Message) (a : ℕ) (y : Message) → still_held o a ≡ Some y → y.letter.me ≢ a
-still-gone None a y e = absurd (none_some None refl e)
-still-gone (Some m) a y e = elim (eqb_tells m.letter.me a) [
-  | inl w ↦ absurd (none_some None refl (rw w.0 at e))
-  | inr w ↦ let same : m ≡ y = let z : Some m ≡ Some y = rw w.0 at e in cc in
-      λ q. w.1 (ap (λ (z : Message). z.letter.me) same ∙ q)
-]
 
 want-going : (w : In) (v : Want) → want_in w ≡ Some v → is_going w ≡ true
 want-going (Fetching f) v e = refl
@@ -59,21 +65,23 @@ active-want : (w : In) (t : Taking) → IsActive w t → want_in w ≡ Some (par
 active-want w t (inl e) = ap want_in e
 active-want w t (inr e) = ap want_in e
 
-module _ (d : Desk) (k : ℕ) (m : Message) (p : Taken d k m) (sd : ℕ → List Out) (tk : ℕ → List In) (bl hp : ℕ → ℕ → Option (List ℕ)) (sc : Option Scrap) where
+module _ {P : ℕ → Type 0} {C : ℕ → Bool} {R : Gave} (d : Desk) (k : ℕ) (m : Message) (p : Taken P C R d k m) (sd : ℕ → List Out) (tk : ℕ → List In)
+    (bl hp : ℕ → ℕ → Option (List ℕ)) (sc : Option Scrap) where
   abbrev E : Option Message → Desk
   E l = after d k sd tk bl hp sc l
 
-  h : Heard d k m
+  h : Heard P R d k m
   h = p.heard
 
   -- an id that the message makes known as answered
-  meets-spent : (i ref : ℕ) → Meets d k m i → i ≡ ref → (ref < d.next_ref) × (IsLive d.queue d.held ref → ⊥)
-  meets-spent i ref x same = (let z = p.outs k (Open x.one) x.has in let e = x.id in omega (arith, z, e, same), none)
+  meets-spent : (i ref : ℕ) → Meets d k m i → i ≡ ref → P ref → (ref < d.next_ref) × (IsLive d.queue d.held ref → ⊥)
+  meets-spent i ref x same of_p = (let z = p.outs k (Open x.one) x.has in let e = x.id in omega (arith, z, e, same), none)
     where
       none : IsLive d.queue d.held ref → ⊥
       none live = elim (eqb_tells x.one.last x.one.id) [
-        | inl w ↦ h.answers x.unread (subst (IsLive d.queue d.held) (sym same ∙ sym x.id ∙ sym w.1 ∙ sym x.answers) live)
-        | inr w ↦ (p.before.silent ref live).outs k (Open x.one) x.has (x.id ∙ same, w.1)
+        | inl w ↦ h.answers x.unread x.one x.has x.answers x.from (subst P (sym same ∙ sym x.id) of_p)
+            (subst (IsLive d.queue d.held) (sym same ∙ sym x.id ∙ sym w.1 ∙ sym x.answers) live)
+        | inr w ↦ p.unbegun ref of_p live k (Open x.one) x.has (x.id ∙ same, w.1)
       ]
 
   begun-below : (ref s : ℕ) (v : Out) → Has v (d.sending s) → Begun ref v → ref < d.next_ref
@@ -81,112 +89,58 @@ module _ (d : Desk) (k : ℕ) (m : Message) (p : Taken d k m) (sd : ℕ → List
   begun-below ref s (Out_done i n) has b = let z = p.outs s (Out_done i n) has in omega (arith, z, b)
   begun-below ref s (Out_failed i n) has b = absurd b
 
-  begun : (l : Option Message) → Deed d k m l sd tk sc → (ref s : ℕ) (v : Out) → Has v (sd s) → Begun ref v →
-      (ref < d.next_ref) × (IsLive d.queue d.held ref → ⊥)
-  begun l x ref s v has b = elim (x.turns s v has) [
-    | inl old ↦ (begun-below ref s v old b, λ live. (p.before.silent ref live).outs s v old b)
+  -- the ids of such transfers were given before
+  old-begun : (l : Option Message) → Deed d k m l sd tk sc → (ref s : ℕ) (v : Out) → Has v (sd s) → Begun ref v → ref < d.next_ref
+  old-begun l x ref s v has b = elim (x.turns s v has) [ inl old ↦ begun-below ref s v old b | inr z ↦ by v z.1 b ]
+    where
+      met : (i : ℕ) → Meets d k m i → i ≡ ref → ref < d.next_ref
+      met i y same = let z = p.outs k (Open y.one) y.has in let e = y.id in omega (arith, z, e, same)
+
+      by : (u : Out) → Turns d k m l u → Begun ref u → ref < d.next_ref
+      by (Open y) (inl offered) b = absurd (b.1 offered)
+      by (Open y) (inr meets) b = met y.id meets b.0
+      by (Out_done i n) turn b = met i turn.0 b
+      by (Out_failed i n) turn b = absurd b
+
+  begun : (l : Option Message) → Deed d k m l sd tk sc → (ref s : ℕ) (v : Out) → Has v (sd s) → Begun ref v → P ref → IsLive d.queue d.held ref → ⊥
+  begun l x ref s v has b of_p live = elim (x.turns s v has) [
+    | inl old ↦ p.unbegun ref of_p live s v old b
     | inr z ↦ by v z.1 b
   ]
     where
-      by : (u : Out) → Turns d k m l u → Begun ref u → (ref < d.next_ref) × (IsLive d.queue d.held ref → ⊥)
-      by (Open y) (inl offered) b = absurd (b.1 offered)
-      by (Open y) (inr meets) b = meets-spent y.id ref meets b.0
-      by (Out_done i n) turn b = meets-spent i ref turn.0 b
-      by (Out_failed i n) turn b = absurd b
+      by : (u : Out) → Turns d k m l u → Begun ref u → ⊥
+      by (Open y) (inl offered) b = b.1 offered
+      by (Open y) (inr meets) b = (meets-spent y.id ref meets b.0 of_p).1 live
+      by (Out_done i n) turn b = (meets-spent i ref turn.0 b of_p).1 live
+      by (Out_failed i n) turn b = b
 
-  -- ---- no live message is answered
+  -- what is live then was so, or is new
+  live-before : (l : Option Message) → Deed d k m l sd tk sc → (ref : ℕ) → IsLive (E l).queue (E l).held ref → (ref ≡ d.next_ref) ⊎ IsLive d.queue d.held ref
+  live-before None x ref live = inr live
+  live-before (Some n) x ref live = sent-live C R d k m p.before sd tk bl hp sc n (x.sends n refl) ref live
 
-  module _ (n : Message) (s : Sends d k m sc n) where
-    new-ref : (y : Message) → Has y (n ∷ []) → y.letter.me ≡ d.next_ref
-    new-ref y (inl e) = ap (λ (z : Message). z.letter.me) (sym e) ∙ s.me
-    new-ref y (inr never) = absurd never
-
-    sent-live : (ref : ℕ) → IsLive (sent d k n).queue (sent d k n).held ref → (ref ≡ d.next_ref) ⊎ IsLive d.queue d.held ref
-    sent-live ref (IsLive.waits y has me) = elim (Has-append y d.queue (n ∷ []) has) [
-      | inl a ↦ inr (IsLive.waits y a me)
-      | inr a ↦ inl (sym me ∙ new-ref y a)
-    ]
-    sent-live ref (IsLive.rests j y is me) = inr (IsLive.rests j y (still_is d k n.letter.answers j y is) me)
-
-    replied : Unread m → n.letter.answers ≡ m.letter.me → IsLive (sent d k n).queue (sent d k n).held n.letter.answers → ⊥
-    replied un a (IsLive.waits y has me) = elim (Has-append y d.queue (n ∷ []) has) [
-      | inl g ↦ h.queue un y g (me ∙ a)
-      | inr g ↦ let z = new-ref y g in let b = s.below in omega (arith, z, me, b)
-    ]
-    replied un a (IsLive.rests j y is me) =
-        let here : j ≡ k = h.hand un j y (still_is d k n.letter.answers j y is) (me ∙ a) in
-        still-gone (d.held k) n.letter.answers y (sym (put_same d.held k (still_held (d.held k) n.letter.answers)) ∙
-        subst (λ i. put d.held k (still_held (d.held k) n.letter.answers) i ≡ Some y) here is) me
-
-    -- the message that the letter answers is live no more
-    quiet : IsLive (sent d k n).queue (sent d k n).held n.letter.answers → ⊥
-    quiet live = elim s.answers [
-      | inl z ↦ elim (sent-live n.letter.answers live) [
-        | inl now ↦ let b = s.below in omega (arith, now, b)
-        | inr old ↦ spent d n.letter.answers z (p.before.silent n.letter.answers old)
+  -- of fewer transfers, or of one more that is offered now
+  unbegun-after : {Q : ℕ → Type 0} → ((ref : ℕ) → ref < d.next_ref → Q ref → P ref) → (l : Option Message) → Deed d k m l sd tk sc → Unbegun Q (E l)
+  unbegun-after less l x ref of_q live s v has b =
+      let old = old-begun l x ref s v has b in
+      elim (live-before l x ref live) [
+        | inl now ↦ absurd (omega (arith, old, now))
+        | inr there ↦ begun l x ref s v has b (less ref old of_q) there
       ]
-      | inr r ↦ replied r.came r.answers live
-    ]
 
   module _ (l : Option Message) (x : Deed d k m l sd tk sc) where
-    -- a letter that is known then
-    knows-after : (a : Letter) → Knows (E l) a → Knows d a ⊎ ((n : Message) × ((l ≡ Some n) × (a ≡ n.letter)))
-    knows-after = by l x
-      where
-        by : (l : Option Message) → Deed d k m l sd tk sc → (a : Letter) → Knows (E l) a → Knows d a ⊎ ((n : Message) × ((l ≡ Some n) × (a ≡ n.letter)))
-        by None x a kn = inl kn
-        by (Some n) x a kn = elim (sent_knows d k n (x.sends n refl).from a kn) [ inl c ↦ inl c | inr c ↦ inr (n, (refl, c)) ]
-
-    -- a ref that is live then is new, or was live and isn't answered
-    live-after : (ref : ℕ) → IsLive (E l).queue (E l).held ref →
-        (ref ≡ d.next_ref) ⊎ (IsLive d.queue d.held ref × ((n : Message) → l ≡ Some n → n.letter.answers ≢ ref))
-    live-after = by l x
-      where
-        by : (l : Option Message) → Deed d k m l sd tk sc → (ref : ℕ) → IsLive (E l).queue (E l).held ref →
-            (ref ≡ d.next_ref) ⊎ (IsLive d.queue d.held ref × ((n : Message) → l ≡ Some n → n.letter.answers ≢ ref))
-        by None x ref live = inr (live, λ n e. absurd (none_some None refl e))
-        by (Some o) x ref live = elim (sent-live o (x.sends o refl) ref live) [
-          | inl now ↦ inl now
-          | inr old ↦ inr (
-            old,
-            λ n e same. let one : o ≡ n = cc in quiet o (x.sends o refl)
-                (subst (IsLive (sent d k o).queue (sent d k o).held) (sym same ∙ ap (λ (z : Message). z.letter.answers) (sym one)) live),
-          )
-        ]
-
-    silent-after : (ref : ℕ) → IsLive (E l).queue (E l).held ref → Silent (E l) ref
-    silent-after ref live = elim (live-after ref live) [
-      | inl now ↦ record {
-        some = let z = p.before.positive in omega (arith, z, now);
-        letters = λ a kn e. elim (knows-after a kn) [
-          | inl c ↦ let z = (p.before.letters a c).1 in omega (arith, z, now, e)
-          | inr c ↦ let z = (x.sends c.0 c.1.0).below in let q = ap (λ (y : Letter). y.answers) c.1.1 in omega (arith, z, now, e, q)
-        ];
-        ids = λ r v has e. elim (x.ids r v has) [
-          | inl z ↦ let b = p.before.ids z.0 z.1.0 z.1.1.0 in let i = z.1.1.1 in omega (arith, b, i, now, e)
-          | inr z ↦ let b = (x.sends z.0 z.1.0).below in let i = z.1.1 in omega (arith, b, i, now, e)
-        ];
-        outs = λ j v has b. let z = (begun l x ref j v has b).0 in omega (arith, z, now);
-      }
-      | inr old ↦ let s = p.before.silent ref old.0 in record {
-        some = s.some;
-        letters = λ a kn e. elim (knows-after a kn) [
-          | inl c ↦ s.letters a c e
-          | inr c ↦ old.1 c.0 c.1.0 (ap (λ (y : Letter). y.answers) (sym c.1.1) ∙ e)
-        ];
-        ids = λ r v has e. elim (x.ids r v has) [ inl z ↦ s.ids z.0 z.1.0 z.1.1.0 (z.1.1.1 ∙ e) | inr z ↦ old.1 z.0 z.1.0 (sym z.1.1 ∙ e) ];
-        outs = λ j v has b. (begun l x ref j v has b).1 old.0;
-      }
-    ]
+    knows-then : (a : Letter) → Knows (E l) a → Knows d a ⊎ ((n : Message) × ((l ≡ Some n) × (a ≡ n.letter)))
+    knows-then = knows-after C R d k m p.before sd tk bl hp sc l x
 
     -- ---- a record's fetch is its task's first answer
 
-    old-first : (r : ℕ) (t : Taking) → Active (d.taking r) t → t.fetch < d.next_ref → (a b : Letter) → Knows (E l) a → Knows (E l) b → b.me ≡ t.fetch →
+    old-first : (r : ℕ) (t : Taking) → Active (d.taking r) t → R t.id ≡ false → t.fetch < d.next_ref → (a b : Letter) → Knows (E l) a → Knows (E l) b → b.me
+        ≡ t.fetch →
         a.from ≡ r → a.answers ≡ b.answers → t.fetch ≤ a.me
-    old-first r t act less a b ka kb me from same = elim (knows-after a ka) [
+    old-first r t act mine less a b ka kb me from same = elim (knows-then a ka) [
       | inr z ↦ let q = new-letter z in omega (arith, q, less)
-      | inl ca ↦ elim (knows-after b kb) [
-        | inl cb ↦ p.first r t act a b ca cb me from same
+      | inl ca ↦ elim (knows-then b kb) [
+        | inl cb ↦ p.first r t act mine a b ca cb me from same
         | inr z ↦ absurd (let q = new-letter z in omega (arith, q, me, less))
       ]
     ]
@@ -194,35 +148,39 @@ module _ (d : Desk) (k : ℕ) (m : Message) (p : Taken d k m) (sd : ℕ → List
         new-letter : {c : Letter} → (n : Message) × ((l ≡ Some n) × (c ≡ n.letter)) → c.me ≡ d.next_ref
         new-letter z = ap (λ (y : Letter). y.me) z.1.1 ∙ (x.sends z.0 z.1.0).me
 
-    new-first : (t : Taking) → t.fetch ≡ d.next_ref → Silent d m.letter.me → Replying m l → (a b : Letter) → Knows (E l) a → Knows (E l) b →
-        b.me ≡ t.fetch → a.answers ≡ b.answers → t.fetch ≤ a.me
-    new-first t ref mute rep a b ka kb me same = elim (knows-after a ka) [
+    new-first : (t : Taking) → t.fetch ≡ d.next_ref → Mute R d m.letter.me → Replying m l → (a b : Letter) → Knows (E l) a → Knows (E l) b →
+        b.me ≡ t.fetch → a.from ≡ k → a.answers ≡ b.answers → t.fetch ≤ a.me
+    new-first t ref mute rep a b ka kb me from same = elim (knows-then a ka) [
       | inr z ↦ let q = ap (λ (y : Letter). y.me) z.1.1 ∙ (x.sends z.0 z.1.0).me in omega (arith, q, ref)
-      | inl ca ↦ elim (knows-after b kb) [
-        | inl cb ↦ absurd (let z = (p.before.letters b cb).0 in omega (arith, z, me, ref))
-        | inr z ↦ absurd (mute.letters a ca (same ∙ ap (λ (y : Letter). y.answers) z.1.1 ∙ rep z.0 z.1.0))
+      | inl ca ↦ elim (knows-then b kb) [
+        | inl cb ↦ absurd (let z = p.before.below b cb in omega (arith, z, me, ref))
+        | inr z ↦
+            let own : R a.me ≡ false = p.before.played a ca (ap d.live from ∙ h.lives) (ap d.raw from ∙ h.plays) in
+            absurd (mute.letters a ca own (same ∙ ap (λ (y : Letter). y.answers) z.1.1 ∙ rep z.0 z.1.0))
       ]
     ]
 
-  first-after : (l : Option Message) → Deed d k m l sd tk sc → IsFirst (E l)
-  first-after l x r t act a b ka kb me from same = by act
+  first-after : (l : Option Message) → Deed d k m l sd tk sc → IsFirst R (E l)
+  first-after l x r t act mine a b ka kb me from same = by act
     where
-      of : (w : In) → IsActive w t → Has w (tk r) → (Has w (d.taking r) → Active (d.taking r) t) → t.fetch ≤ a.me
-      of w is has back = go (x.ins r w (part t.fetch t.sender t.buffer) has (active-want w t is))
+      of : (w : In) → IsActive w t → in_id w ≡ t.id → Has w (tk r) → (Has w (d.taking r) → Active (d.taking r) t) → t.fetch ≤ a.me
+      of w is id has back = go (x.ins r w (part t.fetch t.sender t.buffer) has (active-want w t is))
         where
           go : Origin d k m l r (part t.fetch t.sender t.buffer) (Has w (d.taking r)) ((in_id w ≡ x.fresh) × Goes d k m l w) → t.fetch ≤ a.me
           go (was old other) =
-              old-first l x r t (back old) (p.before.refs r (part t.fetch t.sender t.buffer)
+              old-first l x r t (back old) mine (p.before.refs r (part t.fetch t.sender t.buffer)
               (HasWant.comes (record { one = w; has = old; wants = active-want w t is; id = refl }))) a b ka kb me from same
           go (new z own now) = goes now.1
             where
-              now-first : Silent d m.letter.me → Replying m l → t.fetch ≤ a.me
-              now-first mute rep = new-first l x t z.ref mute rep a b ka kb me same
+              now-first : Mute R d m.letter.me → Replying m l → t.fetch ≤ a.me
+              now-first mute rep = new-first l x t z.ref mute rep a b ka kb me (from ∙ own) same
 
               goes : Goes d k m l w → t.fetch ≤ a.me
-              goes (Goes.begins kind rep same) = now-first (h.mute (λ q. let y : DataSave ≡ DataLoadAck = sym kind ∙ q in (cc))) rep
-              goes (Goes.fills f has_f same kind un from answers le rep) =
-                  now-first (h.mute (λ q. let y : RamTransmit ≡ DataLoadAck = sym kind ∙ q in (cc))) rep
+              goes (Goes.begins kind rep same un) =
+                  now-first (h.mute (λ q. let y : DataSave ≡ DataLoadAck = sym kind ∙ q in (cc)) (ap R (sym same ∙ id) ∙ mine)) rep
+              goes (Goes.fills f has_f same kind un from_f answers le rep) =
+                  now-first (h.mute (λ q. let y : RamTransmit ≡ DataLoadAck = sym kind ∙ q in (cc))
+                  (h.filler un f has_f from_f (ap R (sym same ∙ id) ∙ mine))) rep
               goes (Goes.asks_file f q asks has_f same kind code own_ref) = absurd (no_ask is)
                 where
                   no_ask : IsActive w t → ⊥
@@ -230,8 +188,8 @@ module _ (d : Desk) (k : ℕ) (m : Message) (p : Taken d k m) (sd : ℕ → List
                   no_ask (inr e) = let y : Draining t ≡ Asking q = sym e ∙ asks in (cc)
 
       by : Active (tk r) t → t.fetch ≤ a.me
-      by (inl has) = of (Fetching t) (inl refl) has (λ o. inl o)
-      by (inr has) = of (Draining t) (inr refl) has (λ o. inr o)
+      by (inl has) = of (Fetching t) (inl refl) refl has (λ o. inl o)
+      by (inr has) = of (Draining t) (inr refl) refl has (λ o. inr o)
 
   -- ---- records of transfers whose sender says Done
 
@@ -246,13 +204,13 @@ module _ (d : Desk) (k : ℕ) (m : Message) (p : Taken d k m) (sd : ℕ → List
   ]
     where
       of_new : (j : Kind) → m.letter.kind ≡ j → (DataSave ≡ j → ⊥) → (RamTransmit ≡ j → ⊥) → Unread m → Goes d k m l v → ⊥
-      of_new j is a b un (Goes.begins kind rep same) = a (sym kind ∙ is)
+      of_new j is a b un (Goes.begins kind rep same u) = a (sym kind ∙ is)
       of_new j is a b un (Goes.fills f has same kind u from answers le rep) = b (sym kind ∙ is)
       of_new j is a b un (Goes.asks_file f q asks has same kind code me) = un code
 
       of_old : Has (Out_done i n) (d.sending s) → Goes d k m l v → ⊥
-      of_old old (Goes.begins kind rep same) =
-          (h.mute (λ q. let y : DataSave ≡ DataLoadAck = sym kind ∙ q in (cc))).outs s (Out_done i n) old (sym id ∙ same)
+      of_old old (Goes.begins kind rep same un) =
+          h.offer un kind (ap R (sym same ∙ id) ∙ h.out_ids s (Out_done i n) old) s n (subst (λ j. Has (Out_done j n) (d.sending s)) (sym id ∙ same) old)
       of_old old (Goes.fills f has same kind un from answers le rep) =
           let e = p.ends s i n k (Fetching f) old has (sym same ∙ id) in
           let c = h.carried f has kind un from answers s n (subst (λ j. Has (Out_done j n) (d.sending s)) (sym id ∙ same) old) in
@@ -261,9 +219,13 @@ module _ (d : Desk) (k : ℕ) (m : Message) (p : Taken d k m) (sd : ℕ → List
           omega (arith, c, short, whole, le)
       of_old old (Goes.asks_file f q asks has same kind code me) =
           let e = p.ends s i n k (Fetching f) old has (sym same ∙ id) in
+          let mine : R m.letter.me ≡ false = ap R me ∙
+          p.before.own k (part f.fetch f.sender f.buffer) (HasWant.comes (record { one = Fetching f; has = has; wants = refl; id = refl })) in
           elim e.1.0 [
-            | inl there ↦ (h.mute (λ q. let y : RamFetch ≡ DataLoadAck = sym kind ∙ q in (cc))).letters e.0.letter (Known.queued e.0 there refl)
-                (e.1.1.answers ∙ sym me)
+            | inl there ↦
+                let kn : Knows d e.0.letter = Known.queued e.0 there refl in
+                (h.mute (λ q. let y : RamFetch ≡ DataLoadAck = sym kind ∙ q in (cc)) mine).letters e.0.letter kn
+                (h.senders e.0.letter kn s (Out_done i n) old e.1.1.from) (e.1.1.answers ∙ sym me)
             | inr one ↦ let y : Plain ≡ Returned = sym e.1.1.code ∙ ap (λ (z : Message). z.code) (sym one) ∙ code in (cc)
           ]
 
@@ -288,7 +250,7 @@ module _ (d : Desk) (k : ℕ) (m : Message) (p : Taken d k m) (sd : ℕ → List
       y = meets.one
 
       found : (a : Waiter d k y m.letter) × (m.letter.me ≡ a.taking.fetch)
-      found = h.waiter y meets.has la.fetch la.would la.fetches la.lives meets.unread
+      found = h.waiter y meets.has la.fetch la.would la.fetches la.lives meets.unread r w has (id ∙ sym meets.id)
 
       a : Waiter d k y m.letter
       a = found.0
@@ -359,5 +321,5 @@ module _ (d : Desk) (k : ℕ) (m : Message) (p : Taken d k m) (sd : ℕ → List
       by (In_done j a c) e = subst (Ends (IsQueued (E l)) ((E l).buf r) s r n) (sym e) tt
       by (In_failed j a c) e = subst (Ends (IsQueued (E l)) ((E l).buf r) s r n) (sym e) tt
 
-  pub deed-matched : (l : Option Message) → Deed d k m l sd tk sc → Matched (E l)
-  deed-matched l x = record { silent = silent-after l x; first = first-after l x; ends = ends-after l x }
+  pub deed-matched : {Q : ℕ → Type 0} → ((ref : ℕ) → ref < d.next_ref → Q ref → P ref) → (l : Option Message) → Deed d k m l sd tk sc → Matched Q R (E l)
+  deed-matched less l x = record { unbegun = unbegun-after less l x; first = first-after l x; ends = ends-after l x }

@@ -1,6 +1,6 @@
 -- Where a sender's record says Done, each record of the transfer has ended or its last transmit is queued, of each desk that a
 -- run reaches.
-use Rattle.rh_laws.proofs.Common.{Body, Desk, Edits, Good, Has, Incoming, List, Offers, Parcel, Some, Taking, Task, [], action_of, after, ap, arith}
+use Rattle.rh_laws.proofs.Common.{Body, Desk, Has, Incoming, List, Offers, Parcel, Some, Taking, Task, [], action_of, after, ap, arith}
 use Rattle.rh_laws.proofs.Common.{contains_of, false, field_is, first_is, has_of, in_id, is_equal, length, refl, same_value, seen_parcel, start_with}
 use Rattle.rh_laws.proofs.Common.{subst, sym, task_at, view, ℕ, ◌+◌, ◌==◌, ◌∙◌, ◌≡◌}
 use Rattle.std.specs.List.{Contains}
@@ -16,8 +16,9 @@ use Rattle.rh_laws.specs.SendersDone.{AlwaysMatches, HasEnded, IsFinal, Matches}
 use Rattle.rh_laws.specs.Progress.{rounds_of}
 use Rattle.rh_laws.proofs.DonePairs.{has-map}
 use Rattle.rh_laws.proofs.Dones.{Ends, Final, IsQueued}
-use Rattle.rh_laws.proofs.PlayedDesks.{rounds_none}
-use Rattle.rh_laws.proofs.RestLaws.{Goes_on, after-goes_on, always-goes_on, always-settles, good-of}
+use Rattle.rh_safety.specs.RawIds.{Gave, is_raw_id}
+use Rattle.rh_laws.specs.RawHandles.{RawHandles}
+use Rattle.rh_laws.proofs.PlayedLaws.{PlayedReach, always-reach, always-settles-beside, rounds-reach}
 
 -- the bytes and the buffer of a transmit
 transmit-of : (b : Body) → action_of b ≡ action.RamTransmit → b ≡ body.RamTransmit (address_in b) (amount_in b)
@@ -29,7 +30,10 @@ transmit-of (body.DataLoadAck f) e = absurd cc
 transmit-of (body.RamFetch buffer n) e = absurd cc
 transmit-of (body.Other o) e = absurd cc
 
-module _ {o : Offers} {e : Edits} (d : Desk) (good : Good o e (view d)) (goes : Goes_on (view d)) where
+module _ {C : RawHandles} {R : Gave} (d : Desk) (reached : PlayedReach C R d) where
+  abbrev o : Offers
+  o = reached.stands.offers
+
   module _ (s r id n : ℕ) (t u : Task) (w : Incoming) (at_s : task_at s d ≡ Some t) (done : Contains t.sending (outgoing.Done id n))
       (at_r : task_at r d ≡ Some u) (has : Contains u.taking w) (same : in_id w ≡ id) where
     sent : Has (Out_done id n) ((view d).sending s)
@@ -40,8 +44,8 @@ module _ {o : Offers} {e : Edits} (d : Desk) (good : Good o e (view d)) (goes : 
 
     same-count : (i k count : ℕ) → w ≡ incoming.Done i k count → count ≡ n
     same-count i k count is =
-        let mine : Counted o i count = good.inv.ins.counted r (incoming.Done i k count) (subst (λ v. Has v ((view d).taking r)) is taken) in
-        let theirs = good.inv.outs.counted s id n sent in
+        let mine : Counted o i count = reached.stands.good.inv.ins.counted r (incoming.Done i k count) (subst (λ v. Has v ((view d).taking r)) is taken) in
+        let theirs = reached.stands.good.inv.outs.counted s id n sent in
         let one : mine.all ≡ theirs.all = same_value (o id) (ap o (sym same ∙ ap in_id is) ∙ mine.offered) theirs.offered in
         mine.whole ∙ ap (λ (bytes : List ℕ). length bytes) one ∙ sym theirs.whole
 
@@ -75,7 +79,7 @@ module _ {o : Offers} {e : Edits} (d : Desk) (good : Good o e (view d)) (goes : 
         )
 
     matches : Matches d s u n w
-    matches = by w refl (goes.matched.ends s id n r w sent taken same)
+    matches = by w refl (reached.goes.matched.ends s id n r w sent taken same)
       where
         by : (v : Incoming) → w ≡ v → Ends (IsQueued (view d)) ((view d).buf r) s r n v → Matches d s u n v
         by (incoming.Fetching f) is x = last f x
@@ -93,16 +97,17 @@ ended d s r n (incoming.Done i k count) x going = x
 ended d s r n (incoming.Failed i k count) x going = x
 
 pub always-matches : AlwaysMatches
-always-matches pool handle ref files commands from ranged none =
+always-matches pool handle ref files commands from ranged =
     let start : Desk = start_with pool files handle ref in
     let d : Desk = after start commands in
-    let here = always-goes_on pool handle ref files commands from ranged none in
+    let here = always-reach pool handle ref files commands from ranged in
     record {
-      now = matches d (good-of d here) here.goes;
+      now = matches d here;
       rests = λ rounds in_rounds names few s r id n t u w at_s done at_r has same.
-          let end = after-goes_on (rounds_of rounds) in_rounds (rounds_none rounds) d here in
-          let settled = always-settles pool handle ref files commands from ranged none rounds in_rounds names few in
-          ended (after d (rounds_of rounds)) s u n w
-          (matches (after d (rounds_of rounds)) (good-of (after d (rounds_of rounds)) end) end.goes s r id n t u w at_s done at_r has same)
-          (settled.comes r u w at_r has);
+          let end : Desk = after d (rounds_of rounds) in
+          let there = rounds-reach rounds in_rounds d here in
+          let settled = always-settles-beside pool handle ref files commands from ranged rounds in_rounds names few in
+          let mine : is_raw_id start commands (in_id w) ≡ false = ap (is_raw_id start commands) same ∙
+          there.stands.raws.outs s (Out_done id n) (sent end there s r id n t u w at_s done at_r has same) in
+          ended end s u n w (matches end there s r id n t u w at_s done at_r has same) (settled.comes r u w at_r has mine);
     }

@@ -1,6 +1,7 @@
--- What becomes of a transfer whose sender's record says Done: no live message is answered, a record's fetch is the first that
+-- What becomes of a transfer whose sender's record says Done: no live offer was answered, a record's fetch is the first that
 -- its task sent in answer, and each record of the transfer has ended or has its last transmit in the queue.
-use Rattle.rh_laws.proofs.Common.{Active, Has, Taking, ap, inl, inr, refl, subst, sym, ℕ, ◌+◌, ◌<◌, ◌∙◌, ◌≡◌, ◌≢◌, ◌≤◌, ◌⊎◌}
+use Rattle.rh_laws.proofs.Common.{Active, Has, Taking, ap, inl, inr, refl, subst, sym, false, ℕ, ◌+◌, ◌<◌, ◌∙◌, ◌≡◌, ◌≢◌, ◌≤◌, ◌⊎◌}
+use Rattle.rh_safety.specs.RawIds.{Gave}
 use Rattle.rh_safety.proofs.Ends.{Asking, Draining, Fetching, In, In_done, In_failed, Letter, Message, Open, Out, Out_done, Out_failed, Plain, RamTransmit}
 use Rattle.rh_safety.proofs.Ends.{in_id}
 use Rattle.rh_safety.proofs.Invariant.{IsLive, Knows}
@@ -15,18 +16,15 @@ Begun i (Open x) = (x.id ≡ i) × (x.last ≢ x.id)
 Begun i (Out_done j n) = j ≡ i
 Begun i (Out_failed j n) = ⊥
 
--- no letter answers the ref, and no transfer that was answered has it for an id
-pub record Silent (d : Desk) (ref : ℕ) : Type 0 where
-  pub some : 0 < ref
-  pub letters : (l : Letter) → Knows d l → l.answers ≢ ref
-  pub ids : (r : ℕ) (v : In) → Has v (d.taking r) → in_id v ≢ ref
-  pub outs : (s : ℕ) (v : Out) → Has v (d.sending s) → Begun ref v → ⊥
+-- no transfer of P that was answered has the ref of a live message for an id
+abbrev pub Unbegun : (ℕ → Type 0) → Desk → Type 0
+Unbegun P d = (ref : ℕ) → P ref → IsLive d.queue d.held ref → (s : ℕ) (v : Out) → Has v (d.sending s) → Begun ref v → ⊥
 
--- no letter of the task that answers what its record's fetch answers is older
-abbrev pub IsFirst : Desk → Type 0
-IsFirst d =
-    (r : ℕ) (t : Taking) → Active (d.taking r) t → (l k : Letter) → Knows d l → Knows d k → k.me ≡ t.fetch → l.from ≡ r → l.answers ≡ k.answers →
-    t.fetch ≤ l.me
+-- no letter of the task that answers what its record's fetch answers is older, where the transfer isn't theirs
+abbrev pub IsFirst : Gave → Desk → Type 0
+IsFirst R d =
+    (r : ℕ) (t : Taking) → Active (d.taking r) t → R t.id ≡ false → (l k : Letter) → Knows d l → Knows d k → k.me ≡ t.fetch → l.from ≡ r →
+    l.answers ≡ k.answers → t.fetch ≤ l.me
 
 -- the message has the last bytes of the record's document, of n in all; room is the size of the task's buffers
 pub record Final (room s r n : ℕ) (t : Taking) (m : Message) : Type 0 where
@@ -54,10 +52,16 @@ AllEnd Q d = (s i n r : ℕ) (w : In) → Has (Out_done i n) (d.sending s) → H
 abbrev pub IsQueued : Desk → Message → Type 0
 IsQueued d m = Has m d.queue
 
-pub record Matched (d : Desk) : Type 0 where
-  pub silent : (ref : ℕ) → IsLive d.queue d.held ref → Silent d ref
-  pub first : IsFirst d
+-- P says which transfers were offered to a task that isn't theirs, R which refs are theirs
+pub record Matched (P : ℕ → Type 0) (R : Gave) (d : Desk) : Type 0 where
+  pub unbegun : Unbegun P d
+  pub first : IsFirst R d
   pub ends : AllEnd (IsQueued d) d
+
+-- of fewer transfers
+pub matched-of : {P Q : ℕ → Type 0} {R : Gave} {d : Desk} → ((ref s : ℕ) (v : Out) → Has v (d.sending s) → Begun ref v → Q ref → P ref) →
+    Matched P R d → Matched Q R d
+matched-of less f = record { unbegun = λ ref q live s v has b. f.unbegun ref (less ref s v has b q) live s v has b; first = f.first; ends = f.ends }
 
 -- the record has a buffer
 abbrev pub IsActive : In → Taking → Type 0
@@ -126,19 +130,14 @@ was-live on (IsLive.rests j m is me) = was-one m me (on.held j m is me)
 module _ {d e : Desk} (on : (ref : ℕ) → Onward d e (part ref 0 0)) (knows : (l : Letter) → Knows e l → Knows d l)
     (taking : (r : ℕ) (v : In) → Has v (e.taking r) → (u : In) × (Has u (d.taking r) × Like u v))
     (sending : (s : ℕ) (v : Out) → Has v (e.sending s) → Has v (d.sending s) ⊎ ((i : ℕ) × ((n : ℕ) × (v ≡ Out_failed i n)))) where
-  pub edit-mute : {ref : ℕ} → Silent d ref → Silent e ref
-  edit-mute {ref} x = record {
-    some = x.some;
-    letters = λ l kn. x.letters l (knows l kn);
-    ids = λ r v has i. let u = taking r v has in x.ids r u.0 u.1.0 (sym (like-id u.1.1) ∙ i);
-    outs = λ s v has b. elim (sending s v has) [ inl z ↦ x.outs s v z b | inr z ↦ subst (Begun ref) z.1.1 b ];
-  }
+  pub edit-unbegun : {P : ℕ → Type 0} → Unbegun P d → Unbegun P e
+  edit-unbegun unbegun ref p live s v has b = elim (sending s v has) [
+    | inl z ↦ unbegun ref p (was-live (on ref) live) s v z b
+    | inr z ↦ subst (Begun ref) z.1.1 b
+  ]
 
-  pub edit-silent : ((ref : ℕ) → IsLive d.queue d.held ref → Silent d ref) → (ref : ℕ) → IsLive e.queue e.held ref → Silent e ref
-  edit-silent silent ref live = edit-mute (silent ref (was-live (on ref) live))
-
-  pub edit-first : IsFirst d → IsFirst e
-  edit-first first r t act l k kn_l kn_k me from same = first r t (old act) l k (knows l kn_l) (knows k kn_k) me from same
+  pub edit-first : (R : Gave) → IsFirst R d → IsFirst R e
+  edit-first R first r t act mine l k kn_l kn_k me from same = first r t (old act) mine l k (knows l kn_l) (knows k kn_k) me from same
     where
       here : (v : In) → Has v (e.taking r) → IsActive v t → Active (d.taking r) t
       here v has is =
@@ -152,10 +151,10 @@ module _ {d e : Desk} (on : (ref : ℕ) → Onward d e (part ref 0 0)) (knows : 
       old (inl has) = here (Fetching t) has (inl refl)
       old (inr has) = here (Draining t) has (inr refl)
 
-pub edit-matched : {d e : Desk} → Edit d e → Matched d → Matched e
-edit-matched {d} {e} x f = record {
-  silent = edit-silent x.on x.knows x.taking x.sending f.silent;
-  first = edit-first x.on x.knows x.taking x.sending f.first;
+pub edit-matched : {P : ℕ → Type 0} {R : Gave} {d e : Desk} → Edit d e → Matched P R d → Matched P R e
+edit-matched {R = R} {d = d} {e = e} x f = record {
+  unbegun = edit-unbegun x.on x.knows x.taking x.sending f.unbegun;
+  first = edit-first x.on x.knows x.taking x.sending R f.first;
   ends = ends;
 }
   where

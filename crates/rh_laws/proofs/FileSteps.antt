@@ -41,7 +41,7 @@ use Rattle.rh_laws.specs.ScrapSteps.{IsGone, IsMade, KeepsScrap, ScrapOf, loaded
 
 -- ---- edits that leave it
 
-no-file : (o : Option Scrap) → is_some o ≡ false → o ≡ None
+pub no-file : (o : Option Scrap) → is_some o ≡ false → o ≡ None
 no-file None q = refl
 no-file (Some f) q = absurd (let z : true ≡ false = q in (cc))
 

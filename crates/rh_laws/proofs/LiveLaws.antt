@@ -1,19 +1,16 @@
--- After any commands that start no task with code of its own no record waits in vain: what records are seen to wait for, said of the desk.
-use Rattle.rh_laws.proofs.Common.{Body, Bool, Desk, Good, Has, Incoming, List, Manner, Message, None, Option, Outgoing, Parcel, Some, Task, [], action_of}
-use Rattle.rh_laws.proofs.Common.{after, answers_none, ap, contains_of, false, field_is, has_of, held_by, if◌then◌else◌, inl, inr, map, none_some, option_map}
-use Rattle.rh_laws.proofs.Common.{refl, start_with, subst, sym, true, ℕ, ◌&&◌, ◌==◌, ◌∙◌, ◌∷◌, ◌≡◌, ◌≤◌}
+-- What records are seen to wait for, said of the desk.
+use Rattle.rh_laws.proofs.Common.{Body, Desk, Has, List, Manner, Message, None, Option, Parcel, Some, Task, [], action_of}
+use Rattle.rh_laws.proofs.Common.{answers_none, ap, contains_of, false, field_is, held_by, inl, inr, map, none_some, option_map}
+use Rattle.rh_laws.proofs.Common.{refl, subst, sym, true, ℕ, ◌∙◌, ◌∷◌, ◌≡◌, ◌≤◌}
 use Rattle.rh_defs.specs.declared.message.Action.TheVariants as action
 use Rattle.rh_defs.specs.declared.message.Body.TheVariants.{DataLoad, DataLoadAck, DataSave, DataSaveAck, RamFetch, RamTransmit}
 use Rattle.rh_safety.proofs.Basics.{not_true}
-use Rattle.rh_safety.proofs.Ends.{Asking, Draining, Edits, Fetching, Offers, Open}
 use Rattle.rh_safety.proofs.Invariant.{IsLive}
 use Rattle.rh_safety.proofs.View.{address_in, amount_in, seen_parcel, seen_scrap, task_of, view}
 use Rattle.rh_safety.proofs.Sight as sight
-use Rattle.rh_laws.specs.LiveEnds.{AlwaysHasLiveEnds, AsksForFile, ComesAlive, GoesAlive, HasLiveEnds, IsAlive, IsFetch, IsLoad, IsOwn, IsReply, IsSent}
+use Rattle.rh_laws.specs.LiveEnds.{AsksForFile, IsAlive, IsFetch, IsLoad, IsOwn, IsReply, IsSent}
 use Rattle.rh_laws.specs.LiveEnds.{IsTransmit, LoadsScrap}
-use Rattle.rh_laws.proofs.AtRest.{offered_only}
-use Rattle.rh_laws.proofs.RestLaws.{always-goes_on, good-of}
-use Rattle.rh_laws.proofs.Wants.{AllWait, Asks, HasWant, Ours, Tells, WaitsFor, Want, file, is_sent, part, peer_of, ref_of, reply}
+use Rattle.rh_laws.proofs.Wants.{Asks, Ours, Tells, WaitsFor, Want, file, is_sent, part, peer_of, ref_of, reply}
 
 -- ---- what is seen of a list, or of what there may be
 
@@ -98,7 +95,7 @@ module _ (d : Desk) (h : ℕ) (w : Want) (A : Body → Type 0) (B : Parcel → T
 
 -- ---- records
 
-module _ {o : Offers} {e : Edits} (d : Desk) (good : Good o e (view d)) (all : AllWait (view d)) (h : ℕ) (t : Task) (at : task_of h d.tasks ≡ Some t) where
+module _ (d : Desk) (h : ℕ) (t : Task) (at : task_of h d.tasks ≡ Some t) where
   room : (view d).buf h ≡ t.buffer
   room = field_is (λ y. y.buffer) 1 h d.tasks t at
 
@@ -106,7 +103,7 @@ module _ {o : Offers} {e : Edits} (d : Desk) (good : Good o e (view d)) (all : A
   manner = field_is (λ y. answers_none y.manner) false h d.tasks t at
 
   -- bytes for a buffer
-  part_alive : (ref peer buffer : ℕ) → WaitsFor (view d) h (part ref peer buffer) →
+  pub part_alive : (ref peer buffer : ℕ) → WaitsFor (view d) h (part ref peer buffer) →
       IsAlive d.post h peer ref (IsFetch buffer t.buffer) (λ p. IsTransmit buffer t.buffer p.message.body)
   part_alive ref peer buffer =
       alive d h (part ref peer buffer) (IsFetch buffer t.buffer) (λ p. IsTransmit buffer t.buffer p.message.body)
@@ -125,7 +122,7 @@ module _ {o : Offers} {e : Edits} (d : Desk) (good : Good o e (view d)) (all : A
         names = ap (λ (y : sight.Scrap). y.load) x.1.1 ∙ a.1.1.1.1;
       }
 
-  file_alive : (ref peer : ℕ) → WaitsFor (view d) h (file ref peer) → IsAlive d.post h peer ref AsksForFile (LoadsScrap d)
+  pub file_alive : (ref peer : ℕ) → WaitsFor (view d) h (file ref peer) → IsAlive d.post h peer ref AsksForFile (LoadsScrap d)
   file_alive ref peer = alive d h (file ref peer) AsksForFile (LoadsScrap d) (λ p a. asks_file p.message.body a) (loads ref peer)
 
   -- what follows on a sender's last message
@@ -134,44 +131,8 @@ module _ {o : Offers} {e : Edits} (d : Desk) (good : Good o e (view d)) (all : A
   replies ref peer p (inl kind) = loaded t.manner p.message.body kind
   replies ref peer p (inr a) = fetched t.manner p.message.body a.1.0 (sym manner ∙ a.0) a.1.1
 
-  reply_alive : (ref peer : ℕ) → WaitsFor (view d) h (reply ref peer) →
+  pub reply_alive : (ref peer : ℕ) → WaitsFor (view d) h (reply ref peer) →
       IsAlive d.post h peer ref (IsSent t.manner) (λ p. IsReply t.manner p.message.body)
   reply_alive ref peer =
       alive d h (reply ref peer) (IsSent t.manner) (λ p. IsReply t.manner p.message.body)
       (λ p a. sent t.manner p.message.body (subst (λ c. is_sent c (action_of p.message.body) ≡ true) manner a)) (replies ref peer)
-
-  comes_alive : (w : Incoming) → Has w ((view d).taking h) → ComesAlive d h t w
-  comes_alive (Fetching f) has =
-      part_alive f.fetch f.sender f.buffer (all.waits h _ (HasWant.comes (record { one = Fetching f; has = has; wants = refl; id = refl })))
-  comes_alive (Draining f) has =
-      part_alive f.fetch f.sender f.buffer (all.waits h _ (HasWant.comes (record { one = Draining f; has = has; wants = refl; id = refl })))
-  comes_alive (Asking q) has =
-      file_alive q.ack q.sender (all.waits h _ (HasWant.comes (record { one = Asking q; has = has; wants = refl; id = refl })))
-  comes_alive _ has = tt
-
-  goes_alive : (x : Outgoing) → Has x ((view d).sending h) → GoesAlive d h t x
-  goes_alive (Open x) has = by ((view d).file h && x.last == x.id) refl
-    where
-      by : (c : Bool) → ((view d).file h && x.last == x.id) ≡ c → GoesAlive d h t (Open x)
-      by true only = inl (offered_only d good h t at x has only)
-      by false more = inr (reply_alive x.last x.recipient (all.waits h _ (HasWant.goes (record {
-        one = Open x;
-        has = has;
-        wants = ap (λ c. if c then None else Some (reply x.last x.recipient)) more;
-      }))))
-  goes_alive _ has = tt
-
-live_ends : {o : Offers} {e : Edits} (d : Desk) → Good o e (view d) → AllWait (view d) → HasLiveEnds d
-live_ends d good all = record {
-  comes = λ h t w at has.
-      comes_alive d good all h t at w (subst (Has w) (sym (field_is (λ y. y.taking) [] h d.tasks t at)) (has_of t.taking w has));
-  goes = λ h t x at has.
-      goes_alive d good all h t at x (subst (Has x) (sym (field_is (λ y. y.sending) [] h d.tasks t at)) (has_of t.sending x has));
-}
-
--- each desk that such a run reaches
-pub always-has-live-ends : AlwaysHasLiveEnds
-always-has-live-ends pool handle ref files commands from ranged none =
-    let d : Desk = after (start_with pool files handle ref) commands in
-    let here = always-goes_on pool handle ref files commands from ranged none in
-    live_ends d (good-of d here) here.goes.waits

@@ -258,7 +258,7 @@ rest-after (name ∷ names) d rest = rest-after names _ (subst IsAtRest (sym (re
 
 -- ---- rounds
 
-after-both : (d : Desk) (xs ys : List Command) → after d (xs ++ ys) ≡ after (after d xs) ys
+pub after-both : (d : Desk) (xs ys : List Command) → after d (xs ++ ys) ≡ after (after d xs) ys
 after-both d [] ys = refl
 after-both d (x ∷ xs) ys = after-both (step d x).0 xs ys
 

@@ -115,7 +115,7 @@ rest-apart k (x ∷ q) m y e up has u v = elim (eqb_tells x.to k) [
   ]
 ]
 
-unread_or_back : (y : Message) → Unread y ⊎ (y.code ≡ Returned)
+pub unread_or_back : (y : Message) → Unread y ⊎ (y.code ≡ Returned)
 unread_or_back y = by y.code refl
   where
     by : (c : Code) → y.code ≡ c → Unread y ⊎ (y.code ≡ Returned)

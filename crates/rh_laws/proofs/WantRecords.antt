@@ -1,14 +1,14 @@
 -- Deeds on one record, which is written anew or comes to its end; and which records a message can be for.
 use Rattle.rh_laws.proofs.Common.{Asked, Bool, Has, List, None, Option, Sending, Some, Taking, ap, false}
-use Rattle.rh_laws.proofs.Common.{if◌then◌else◌, in_id, inl, inr, none_some, out_id, refl, subst, sym, true, ℕ, ◌&&◌, ◌==◌, ◌∙◌, ◌≡◌, ◌⊎◌}
+use Rattle.rh_laws.proofs.Common.{if◌then◌else◌, in_id, inl, inr, none_some, out_id, refl, subst, sym, true, ℕ, ◌<◌, ◌&&◌, ◌==◌, ◌∙◌, ◌≡◌, ◌⊎◌}
 use Rattle.rh_defs.specs.declared.message.Action.TheVariants as action
 use Rattle.rh_safety.proofs.Ends.{Asking, Draining, Fetching, In, In_done, In_failed, Kind, Letter, Message, Open, Out, Out_done, Out_failed, put, with_id}
 use Rattle.rh_safety.proofs.Invariant.{Unread}
 use Rattle.rh_safety.proofs.Moves.{Move, move_with}
 use Rattle.rh_safety.proofs.Sight as sight
-use Rattle.rh_laws.proofs.Wants.{Asks, InWants, OutWants, Tells, Want, file, is_sent, part, reply, want_in, want_out}
+use Rattle.rh_laws.proofs.Wants.{Asks, InWants, OutWants, Tells, Want, file, is_sent, part, ref_of, reply, want_in, want_out}
 use Rattle.rh_laws.proofs.WantEdits.{For, OldId, OldIds, after}
-use Rattle.rh_laws.proofs.WantDeeds.{Anew, Before, Deed, Goes, Origin, Sends, Turns, new, was}
+use Rattle.rh_laws.proofs.WantDeeds.{Anew, Deed, Goes, Origin, Sends, Turns, new, was}
 
 -- ---- who wants what
 
@@ -158,9 +158,15 @@ module _ (D : sight.Desk) (k : ℕ) (m : Message) where
   pub none-sent : (sc : Option sight.Scrap) (n : Message) → None ≡ Some n → Sends D k m sc n
   none-sent sc n e = absurd (none_some None refl e)
 
+-- no two records of a task that come in wait by one ref; the message's ref and the records' ids were given
+pub record Apart (D : sight.Desk) (k : ℕ) (m : Message) : Type 0 where
+  pub apart : (h : ℕ) (w x : Want) (i j : ℕ) → InWants (D.taking h) w i → InWants (D.taking h) x j → ref_of w ≡ ref_of x → i ≡ j
+  pub mine : m.letter.me < D.next_ref
+  pub ids : (h : ℕ) (v : In) → Has v (D.taking h) → in_id v < D.next_ref
+
 -- what is known of the message, and that what such a deed leaves is so
 pub record Ready (Q : sight.Desk → Type 0) (D : sight.Desk) (k : ℕ) (m : Message) : Type 0 where
-  pub before : Before D k m
+  pub before : Apart D k m
   pub closes : (sd : ℕ → List Out) (tk : ℕ → List In) (bl hp : ℕ → ℕ → Option (List ℕ)) (sc : Option sight.Scrap) (l : Option Message) →
       Deed D k m l sd tk sc → Q (after D k sd tk bl hp sc l)
 

@@ -3,7 +3,7 @@ use Rattle.rh_laws.proofs.Common.{Acknowledge, Active, Asked, Body, Bool, Desk, 
 use Rattle.rh_laws.proofs.Common.{Split, Taking, Task, User, [], action_of, and_left, and_right, answers_none, ap, arith, eq-eqb, false, field_is, handled}
 use Rattle.rh_laws.proofs.Common.{if◌then◌else◌, in_id, inl, inr, is_equal, leb_tells, leb_yes, length, live_of, nat_eq, nat_le, nat_lt, next_ref, none_some}
 use Rattle.rh_laws.proofs.Common.{not, option_map, out_id, refl, same_value, subst, suc, sym, task_of, true, view, with_sending, ℕ, ◌&&◌, ◌+◌, ◌<◌, ◌∙◌, ◌≡◌}
-use Rattle.rh_laws.proofs.Common.{◌≤◌, ◌⊎◌}
+use Rattle.rh_laws.proofs.Common.{◌≤◌, ◌≢◌, ◌⊎◌, blocks_of, buffers_of, drop, first_is, take}
 use Rattle.rh_defs.specs.declared.message.Action.TheVariants as action
 use Rattle.rh_defs.specs.declared.message.Body.TheVariants as body
 use Rattle.rh_defs.specs.declared.message.FileData.{FileData}
@@ -11,6 +11,8 @@ use Rattle.rh_defs.specs.declared.transfer_action.Transmit.{Transmit}
 use Rattle.rh_defs.specs.declared.transfer_action.Part.{Part}
 use Rattle.rh_defs.specs.IncomingEvents.{end_failed}
 use Rattle.rh_defs.specs.Letters.{transmit_letter}
+use Rattle.rh_defs.specs.Places.{buffer_at, written_in}
+use Rattle.rh_defs.specs.Slot.{Slot}
 use Rattle.rh_defs.specs.Sender as sender
 use Rattle.rh_defs.specs.Receiver as receiver
 use Rattle.rh_safety.proofs.Acts as acts
@@ -18,26 +20,24 @@ use Rattle.rh_safety.proofs.Acts.{Act, ForAsking, ForOpen, abandons, asks, back-
 use Rattle.rh_safety.proofs.Acts.{is_for_active, is_for_asking, is_for_open, loads, loads_only, not-back, part_of, poured, saves, sends, skips, takes_full}
 use Rattle.rh_safety.proofs.Acts.{takes_last, takes_some, transmit_of}
 use Rattle.rh_safety.proofs.Basics.{not_true}
-use Rattle.rh_safety.proofs.Ends.{Asking, Edits, Fetching, Draining, In, In_done, In_failed, Message, Offers, Open, Out, Out_done, Out_failed, is_going, put}
+use Rattle.rh_safety.proofs.Ends.{Asking, Fetching, Draining, In, In_done, In_failed, Message, Open, Out, Out_done, Out_failed, is_going, put}
 use Rattle.rh_safety.proofs.Ends.{with_id}
-use Rattle.rh_safety.proofs.Invariant.{Inv, Unread}
-use Rattle.rh_safety.proofs.KeptActs.{reaches}
+use Rattle.rh_safety.proofs.Invariant.{Unread}
 use Rattle.rh_safety.proofs.Moves.{move_more}
 use Rattle.rh_safety.proofs.PollTurns.{unlike}
-use Rattle.rh_safety.proofs.Polls.{Taken}
 use Rattle.rh_safety.proofs.SeenActs.{asks_seen, buffer_size, claims_seen, ends_seen, fetched_seen, loads_only_seen, loads_seen, none_before, recipient_lives}
-use Rattle.rh_safety.proofs.SeenActs.{saves_seen, sends_seen}
+use Rattle.rh_safety.proofs.SeenActs.{saves_seen}
 use Rattle.rh_safety.proofs.SeenDocuments.{ended_view, letter_of}
-use Rattle.rh_safety.proofs.SeenTasks.{ins_view, outs_view}
+use Rattle.rh_safety.proofs.SeenSends.{sent_slot, sent_view}
+use Rattle.rh_safety.proofs.SeenTasks.{ins_view, outs_view, slot_at, slot_is, slot_view}
 use Rattle.rh_safety.proofs.Sight as sight
 use Rattle.rh_safety.proofs.View.{seen_letter, seen_scrap}
 use Rattle.rh_laws.proofs.Wants.{Asks, Tells, Want, file, is_sent, part, peer_of, ref_of, reply, want_in, want_out}
-use Rattle.rh_laws.proofs.WantEdits.{For, answer, own_back}
+use Rattle.rh_laws.proofs.WantEdits.{For, after, answer, own_back}
 use Rattle.rh_laws.proofs.WantDeeds.{Anew, Goes, IsSpent, Meets, Replying, Sends, Turns}
 use Rattle.rh_laws.proofs.WantRecords.{InWant, NoneIn, NoneOut, OnlyIn, OnlyOut, Ready, asks-fits, by_ask, by_drain, by_fetch, deed, files, fits, idle}
 use Rattle.rh_laws.proofs.WantRecords.{ids-moved, in-deed, in-want, ins-moved, none-sent, out-deed, out-want, outs-stay, parts, replies, sort_of, tells-fits}
 use Rattle.rh_laws.proofs.WantRecords.{un}
-use Rattle.rh_laws.proofs.PlayedDesks.{masked_taken, no_one}
 
 less-of : (a b : ℕ) → nat_lt a b ≡ true → a < b
 less-of a b e = elim (leb_tells (suc a) b) [ inl w ↦ w.1 | inr w ↦ absurd (let z = w.0 in (cc)) ]
@@ -45,8 +45,14 @@ less-of a b e = elim (leb_tells (suc a) b) [ inl w ↦ w.1 | inr w ↦ absurd (l
 not-less : (a b : ℕ) → nat_lt a b ≡ false → b ≤ a
 not-less a b e = elim (leb_tells (suc a) b) [ inl w ↦ absurd (let z = w.0 in (cc)) | inr w ↦ let z = w.1 in omega (arith, z) ]
 
-module _ (Q : sight.Desk → Type 0) {o : Offers} {e : Edits} (d : Desk) (t : Task) (m : Parcel) (is : task_of t.handle d.tasks ≡ Some t)
-    (inv : Inv o e (view d)) where
+-- what is known of the task's records, and that none of them is of the message, where it is to come
+pub record Reads (D : sight.Desk) (k : ℕ) (m : Parcel) : Type 0 where
+  pub lasts : (x y : Sending) → Has (Open x) (D.sending k) → Has (Open y) (D.sending k) → x.last ≡ y.last → x.id ≡ y.id
+  pub room : 0 < D.buf k
+  pub unborn : (m.code ≡ Acknowledge → ⊥) → (w : In) → Has w (D.taking k) → in_id w ≢ m.message.my_ref
+
+module _ (Q : sight.Desk → Type 0) (d : Desk) (t : Task) (m : Parcel) (is : task_of t.handle d.tasks ≡ Some t)
+    (reads : Reads (view d) t.handle m) where
   abbrev D : sight.Desk
   D = view d
 
@@ -250,7 +256,7 @@ module _ (Q : sight.Desk → Type 0) {o : Offers} {e : Edits} (d : Desk) (t : Ta
     same-out : (x : Sending) → Has (Open x) (D.sending k) → aim back ≡ x.last → OnlyOut D k (M b) x.id
     same-out x has r w u there wants f =
         let z = out-want (D.file k) u w wants in
-        ap out_id z.1.0 ∙ inv.outs.lasts k z.0 x (subst (λ y. Has y (D.sending k)) z.1.0 there) has
+        ap out_id z.1.0 ∙ reads.lasts z.0 x (subst (λ y. Has y (D.sending k)) z.1.0 there) has
         (ap ref_of (sym z.1.1) ∙ sym (aimed back code b w f).refs ∙ r)
 
     module _ (x : Sending) (it : ForOpen d t m back b x) where
@@ -292,7 +298,7 @@ module _ (Q : sight.Desk → Type 0) {o : Offers} {e : Edits} (d : Desk) (t : Ta
   tells-fetch b p q r n kind amount (part x y u) room c a = un (sym p ∙ asks-fits (part x y u) room c (letter_of m b) a)
   tells-fetch b p q r n kind amount (file x y) room c a = un (sym q ∙ asks-fits (file x y) room c (letter_of m b) a)
   tells-fetch b p q r n kind amount (reply x y) room c a =
-      inr (not_true c (sym (r c) ∙ a), (kind, let z = inv.ins.room k in omega (arith, z, amount)))
+      inr (not_true c (sym (r c) ∙ a), (kind, let z = reads.room in omega (arith, z, amount)))
 
   tells-bytes : (buffer size : ℕ) (a : Transmit) (n : Message) → a.buffer ≡ buffer → a.room ≡ size → n.letter.kind ≡ action.RamTransmit →
       n.letter.address ≡ a.buffer → n.letter.amount ≤ a.room → (w : Want) (room : ℕ) (c : Bool) → Asks w room c (letter_of m (body.RamFetch buffer size)) →
@@ -326,7 +332,7 @@ module _ (Q : sight.Desk → Type 0) {o : Offers} {e : Edits} (d : Desk) (t : Ta
 
   -- a part of the source answers a fetch
   module _ (code : is_back m.code ≡ false) (buffer size : ℕ) (bf : Ready Q D k (M (body.RamFetch buffer size)))
-      (tk : Taken o e D k (letter_of m (body.RamFetch buffer size))) (x : Sending) (s : Split Flex) (r : Task) (sent : Desk)
+      (x : Sending) (s : Split Flex) (r : Task) (sent : Desk)
       (it : ForOpen d t m false (body.RamFetch buffer size) x) (w : acts.Sends d t m buffer size x s r sent) where
     abbrev b : Body
     b = body.RamFetch buffer size
@@ -393,30 +399,52 @@ module _ (Q : sight.Desk → Type 0) {o : Offers} {e : Edits} (d : Desk) (t : Ta
       }),
     )
 
+    -- the slot that the part is written into
+    abbrev edit : Slot → Slot
+    edit z = written_in buffer (take p.n (drop p.offset s.here.bytes)) (buffer_at buffer size z) z
+
+    abbrev blocks : ℕ → ℕ → Option (List ℕ)
+    blocks = put D.block r.handle (blocks_of (edit r.slot))
+
+    abbrev heaps : ℕ → ℕ → Option (List ℕ)
+    heaps = put D.heap r.handle (buffers_of (edit r.slot))
+
+    seen : view (with_sending k (sender.sent a p (next_ref d)) (poured d t m buffer size p s r sent)) ≡
+        after D k (put D.sending k (sender.sent a p D.next_ref (D.sending k))) D.taking blocks heaps D.scrap (Some n)
+    seen =
+        let letter = transmit_letter k a p in
+        let v : view sent ≡ sight.sent D k n = sent_view d sent letter w.letter live in
+        let there : r.handle ≡ x.recipient = is_equal _ _ (first_is (λ (y : Task). nat_eq y.handle x.recipient) d.tasks r w.to).1 in
+        let here : (view sent).live r.handle ≡ true = ap (λ (y : sight.Desk). y.live r.handle) v ∙ ap D.live there ∙ live_of d x.recipient r w.to in
+        let slot : slot_at sent r.handle ≡ r.slot = sent_slot d sent letter w.letter r.handle ∙ ap (slot_at d) there ∙ slot_is d x.recipient r w.to in
+        let z = slot_view sent r.handle edit r.slot here slot ∙ ap (λ (y : sight.Desk). record y {
+          block = put y.block r.handle (blocks_of (edit r.slot));
+          heap = put y.heap r.handle (buffers_of (edit r.slot));
+        }) v in
+        outs_view _ k (sender.sent a p D.next_ref) (ap (λ (y : sight.Desk). y.live k) z ∙ live) ∙
+        ap (λ (y : sight.Desk). record y { sending = put y.sending k (sender.sent a p D.next_ref (y.sending k)) }) z
+
     part-sent : Q (view (with_sending k (sender.sent a p (next_ref d)) (poured d t m buffer size p s r sent)))
     part-sent =
-        out-deed D k (M b) bf (Some n) x.id (sender.after_sent a p D.next_ref) D.block _ D.scrap (id_of p.is_last)
-        (sends_seen d t m is buffer size x s r sent w
-        (reaches no_one (λ j. false) d t m is buffer size (masked_taken o e D k (letter_of m b) tk) x it.has manner passes lives))
+        out-deed D k (M b) bf (Some n) x.id (sender.after_sent a p D.next_ref) blocks heaps D.scrap (id_of p.is_last) seen
         (out-none false code b bf x it) (out-own false code b bf x it) (anew p.is_last refl)
         (sends-one b bf D.scrap n (reply-sent b bf D.scrap n refl refl refl (not-back m.code code) (unread p.is_last) refl
         (tells-bytes buffer size a n refl refl refl refl (omega arith)))) (turn p.is_last refl) (λ f z. z)
 
-  act-waits : {back : Bool} {b : Body} {y : Handled} → Act d t m back b y → (code : is_back m.code ≡ back) → Ready Q D k (M b) →
-      (back ≡ false → Taken o e D k (letter_of m b)) → Q (view y.0)
-  act-waits {back} {b} (skips free) code bf tk =
+  act-waits : {back : Bool} {b : Body} {y : Handled} → Act d t m back b y → (code : is_back m.code ≡ back) → Ready Q D k (M b) → Q (view y.0)
+  act-waits {back} {b} (skips free) code bf =
       idle D k (M b) bf refl
       (no-in back code b bf (λ f act a. unlike (sym (free.active f (subst (λ ws. Active ws f) takings act)) ∙ would-active back b f a))
       (λ q has a. unlike (sym (free.asking q (subst (Has (Asking q)) takings has)) ∙ would-asking back b q a)))
       (no-out back code b bf (λ x has a. unlike (sym (free.open_ x (subst (Has (Open x)) sendings has)) ∙ would-open back b x a)))
-  act-waits {back} {b} (fails x y it why) code bf tk =
+  act-waits {back} {b} (fails x y it why) code bf =
       shut-out b bf x (Out_failed x.id x.count) refl refl (outs_view d k (sender.sending_failed x) live) (out-none back code b bf x it)
       (out-own back code b bf x it) tt
-  act-waits (finishes {file = f} x s it there) code bf tk =
+  act-waits (finishes {file = f} x s it there) code bf =
       let b : Body = body.DataLoadAck f in
       shut-out b bf x (Out_done x.id (length s.here.bytes)) refl refl (outs_view d k (sender.sending_loaded x (length s.here.bytes)) live)
       (out-none false code b bf x it) (out-own false code b bf x it) (meets code b x it, inl refl)
-  act-waits (saves {file = f} x s sent it there none l) code bf tk =
+  act-waits (saves {file = f} x s sent it there none l) code bf =
       let b : Body = body.DataSaveAck f in
       let from : m.message.from ≡ x.recipient = open-from b x it.passes in
       let n : Message = record {
@@ -429,8 +457,8 @@ module _ (Q : sight.Desk → Type 0) {o : Offers} {e : Edits} (d : Desk) (t : Ta
       (out-none false code b bf x it) (out-own false code b bf x it) (anew-open b bf n (record x { last = D.next_ref }) refl refl refl refl)
       (sends-one b bf (Some g) n (reply-sent b bf (Some g) n refl refl refl (not-back m.code code) recorded (sym from)
       (tells-file f g n refl refl refl))) (inr (meets code b x it)) (λ h z. absurd (none_some D.scrap (none_before d t m is none) z))
-  act-waits (sends {buffer = buffer} {n = size} x s r sent it w) code bf tk = part-sent code buffer size bf (tk refl) x s r sent it w
-  act-waits (claims {file = x} c g p sent few free claim alloc l) code bf tk =
+  act-waits (sends {buffer = buffer} {n = size} x s r sent it w) code bf = part-sent code buffer size bf x s r sent it w
+  act-waits (claims {file = x} c g p sent few free claim alloc l) code bf =
       let b : Body = body.DataSave x in
       let w = claims_seen d t m is b c g p sent few free claim alloc l in
       let f : Taking = record {
@@ -448,7 +476,7 @@ module _ (Q : sight.Desk → Type 0) {o : Offers} {e : Edits} (d : Desk) (t : Ta
         to = m.message.from;
         letter = record { from = k; me = D.next_ref; answers = m.message.my_ref; kind = action.RamFetch; address = w.address; amount = D.buf k };
       } in
-      let move = move_more in_id D.taking k D.most is_going (Fetching f) (λ v has e. let z = (tk refl).read.past v has in omega (arith, z, e)) in
+      let move = move_more in_id D.taking k D.most is_going (Fetching f) (λ v has e. reads.unborn (not-back m.code code) v has e) in
       let no_in = no-in false code b bf (λ g act a. un a.sorts) (λ q has a. un a.sorts) in
       deed D k (M b) bf (Some n) D.sending _ (put D.block k (put (D.block k) w.anchor (Some [])))
       (put D.heap k (put (D.heap k) w.address (Some w.bytes))) D.scrap
@@ -457,7 +485,7 @@ module _ (Q : sight.Desk → Type 0) {o : Offers} {e : Edits} (d : Desk) (t : Ta
         ins = ins-moved D k (M b) (Some n) _ (Fetching f) move (λ v j z g. absurd (no_in v j z g))
             (λ v e. (
               anew-one b bf n (part D.next_ref m.message.from w.address) refl (refl, (refl, omega arith)) refl refl v e,
-              Goes.begins refl (replying-one b bf n refl) refl,
+              Goes.begins refl (replying-one b bf n refl) refl (not-back m.code code),
             ));
         outs = outs-stay D k (M b) (Some n) (no-out false code b bf (λ x has a. un a.sorts));
         turns = λ h v has. inl has;
@@ -466,20 +494,20 @@ module _ (Q : sight.Desk → Type 0) {o : Offers} {e : Edits} (d : Desk) (t : Ta
             (tells-fetch b refl refl (λ c. refl) n refl refl));
         scrap = λ g s. inl s;
       })
-  act-waits {back} {b} (gives_up f y it why) code bf tk = by it.has
+  act-waits {back} {b} (gives_up f y it why) code bf = by it.has
     where
       by : Active t.taking f → Q (view (end_failed d t f))
       by (inl has) = ends back code b bf f it.passes (Fetching f) has refl refl (In_failed f.id f.anchor f.count) D.block refl refl
           (ended_view d k f (receiver.taking_failed f) live)
       by (inr has) = ends back code b bf f it.passes (Draining f) has refl refl (In_failed f.id f.anchor f.count) D.block refl refl
           (ended_view d k f (receiver.taking_failed f) live)
-  act-waits (takes_last {buffer = buffer} {n = n} f longer it l less) code bf tk =
+  act-waits (takes_last {buffer = buffer} {n = n} f longer it l less) code bf =
       ends false code (body.RamTransmit buffer n) bf f it.passes (Fetching f) it.has refl refl (In_done f.id f.anchor (f.count + n))
       (sight.longer D k f n).block refl refl (ends_seen d t m is n f longer l (In_done f.id f.anchor (f.count + n)))
-  act-waits (takes_some {buffer = buffer} {n = n} f longer why it l) code bf tk =
+  act-waits (takes_some {buffer = buffer} {n = n} f longer why it l) code bf =
       ends false code (body.RamTransmit buffer n) bf f it.passes (Fetching f) it.has refl refl (In_failed f.id f.anchor (f.count + n))
       (sight.longer D k f n).block refl refl (ends_seen d t m is n f longer l (In_failed f.id f.anchor (f.count + n)))
-  act-waits (takes_full {buffer = buffer} {n = size} f longer sent it l full s) code bf tk =
+  act-waits (takes_full {buffer = buffer} {n = size} f longer sent it l full s) code bf =
       let b : Body = body.RamTransmit buffer size in
       let g : Taking = record { id = f.id; sender = f.sender; anchor = f.anchor; buffer = f.buffer; count = f.count + size; fetch = D.next_ref; raw = f.raw } in
       let from : m.message.from ≡ f.sender =
@@ -499,7 +527,7 @@ module _ (Q : sight.Desk → Type 0) {o : Offers} {e : Edits} (d : Desk) (t : Ta
       ))
       (sends-one b bf D.scrap n (reply-sent b bf D.scrap n refl refl refl (not-back m.code code) recorded (sym from)
       (tells-fetch b refl refl (λ c. refl) n refl refl))) (λ g s. inl s)
-  act-waits (asks {buffer = buffer} {n = size} f sent it none l) code bf tk =
+  act-waits (asks {buffer = buffer} {n = size} f sent it none l) code bf =
       let b : Body = body.RamFetch buffer size in
       let n : Message = record {
         code = Recorded;
@@ -520,15 +548,15 @@ module _ (Q : sight.Desk → Type 0) {o : Offers} {e : Edits} (d : Desk) (t : Ta
         below = bf.before.ids k (Fetching f) has;
         answers = inl (IsSpent.named k (Fetching f) has refl);
       })) (λ g z. inl z)
-  act-waits {back} {b} (abandons q y it why) code bf tk =
+  act-waits {back} {b} (abandons q y it why) code bf =
       shut-in b bf (In_failed q.id q.anchor 0) (Asking q) D.block D.heap D.scrap refl (ins_view d k (receiver.abandoned q 0) live)
       (in_has (Asking q) it.has) refl (asking-own back code b bf q it) (asking-none back code b bf q it) (λ f z. inl z)
-  act-waits (loads_only {file = x} q scrap longer why it w) code bf tk =
+  act-waits (loads_only {file = x} q scrap longer why it w) code bf =
       let b : Body = body.DataLoad x in
       shut-in b bf (In_failed q.id q.anchor (length scrap.bytes)) (Asking q) (sight.copied D k q scrap.bytes).block D.heap None refl
       (loads_only_seen d t m is q scrap longer w) (in_has (Asking q) it.has) refl (asking-own false code b bf q it)
       (asking-none false code b bf q it) (gone code b w.there w.names)
-  act-waits (loads {file = x} q scrap longer sent it w l) code bf tk =
+  act-waits (loads {file = x} q scrap longer sent it w l) code bf =
       let b : Body = body.DataLoad x in
       let from : m.message.from ≡ q.sender =
       is_equal _ _ (and_left (nat_eq m.message.from q.sender) _ (and_right (is_file m.message.my_ref d.scrap) _ it.passes)) in
@@ -545,6 +573,5 @@ module _ (Q : sight.Desk → Type 0) {o : Offers} {e : Edits} (d : Desk) (t : Ta
       (gone code b w.there w.names)
 
   -- a message that was taken
-  pub handled-waits : Ready Q D k (M m.message.body) → ((m.code ≡ Acknowledge → ⊥) → Taken o e D k (letter_of m m.message.body)) →
-      Q (view (handled d t m m.code).0)
-  handled-waits bf tk = act-waits (handled-acts d t m m.code) refl bf (λ came. tk (not-back m.code came))
+  pub handled-waits : Ready Q D k (M m.message.body) → Q (view (handled d t m m.code).0)
+  handled-waits bf = act-waits (handled-acts d t m m.code) refl bf

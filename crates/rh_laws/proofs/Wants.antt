@@ -104,11 +104,6 @@ pub record Answered (d : Desk) (h : ℕ) (w : Want) : Type 0 where
 abbrev pub WaitsFor : Desk → ℕ → Want → Type 0
 WaitsFor d h w = Unanswered d h w ⊎ Answered d h w
 
--- each record waits for what it wants, and no two of a task that come in wait by one ref
-pub record AllWait (d : Desk) : Type 0 where
-  pub waits : (h : ℕ) (w : Want) → Wants d h w → WaitsFor d h w
-  pub apart : (h : ℕ) (w x : Want) (i j : ℕ) → InWants (d.taking h) w i → InWants (d.taking h) x j → ref_of w ≡ ref_of x → i ≡ j
-
 -- ---- from one desk to the next
 
 -- a message that was live, or is one that came back

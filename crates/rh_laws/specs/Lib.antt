@@ -18,3 +18,7 @@ pub mod MayShow
 pub mod Partners
 pub mod ScrapSteps
 pub mod Moved
+pub mod ScrapEnds
+pub mod Contents
+pub mod RawHandles
+pub mod Beside

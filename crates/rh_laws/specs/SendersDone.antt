@@ -15,7 +15,7 @@ use Rattle.rh_defs.specs.Messages.{Parcel}
 use Rattle.rh_defs.specs.Records.{in_id}
 use Rattle.rh_defs.specs.Desk.{Desk, Task, task_at}
 use Rattle.rh_defs.specs.Runs.{after}
-use Rattle.rh_safety.specs.Played.{AfterPlayed}
+use Rattle.rh_defs.specs.Laws.{Always}
 use Rattle.rh_laws.specs.Progress.{NamesAll, rounds_of, work}
 
 -- the last transmit for a record of task r that has a buffer: from task s, in answer to the record's fetch, of fewer bytes than
@@ -57,6 +57,6 @@ pub record DoneMatches (d : Desk) : Type 0 where
       (rounds : List (List (List ℕ))) → all_in_range (rounds_of rounds) ≡ true → AllByRecursion (NamesAll d) rounds → work d ≤ length rounds →
       WhereDone (λ s r n w. HasEnded n w) (after d (rounds_of rounds))
 
--- so it is of each desk that a run reaches in which no command starts a task with code of its own
+-- so it is of each desk that a run reaches
 abbrev pub AlwaysMatches : Type 0
-AlwaysMatches = AfterPlayed DoneMatches
+AlwaysMatches = Always DoneMatches

@@ -2,9 +2,9 @@
 
 ghost use Rattle.rh_laws.specs.SendersDone.{AlwaysMatches};
 
-/// Where no command starts a task with code of its own, and a sender's record says Done, each record that comes in
-/// under its id is Done with the same count, or Failed, or its last transmit is queued. Once only polls follow, rounds
-/// of them leave each Done with that count, or Failed.
+/// After any commands, where a sender's record says Done, each record that comes in under its id is Done with the same
+/// count, or Failed, or its last transmit is queued. Once only polls follow, rounds of them leave each Done with that
+/// count, or Failed.
 pub fn done_law()
     ensures { AlwaysMatches }
 {}
