@@ -836,10 +836,10 @@ uint32_t vf_desk_transfer(struct vf_desk *desk, uint32_t from, uint32_t address,
 
 /* -- tasks with code of their own --
  *
- * A task of VF_TASK_RAW plays no part by itself: your program takes its messages and answers them. Beside tasks that
- * the desk plays it can do no harm: the desk writes who has sent a message, and bytes go only where they were asked
- * for. Tasks are told by their handles, as in a message block. All but vf_desk_take test last that the task has code of
- * its own, VF_WRONG_MANNER, and then that a ref was given, VF_BAD_REF.
+ * A task of VF_TASK_RAW plays no part by itself: your program takes its messages and answers them. The desk writes who
+ * has sent a message, and changes no byte of another task but in a buffer that this task opened. Messages and pages are
+ * shared by all: one task can use them up. Tasks are told by their handles, as in a message block. All but vf_desk_take
+ * test last that the task has code of its own, VF_WRONG_MANNER, and then that a ref was given, VF_BAD_REF.
  */
 
 /* Wimp_Poll: takes the task's next message, and tells it as its block, and its reason code, 0 where there is none. The
