@@ -44,7 +44,7 @@ extern "C" {
 /* ---- Statuses ----------------------------------------------------------------------------------------------------
  *
  * Each call answers one. With any but VF_OK it has changed nothing: no byte of the memory, and none of the numbers that
- * it would have told. Refusals have the numbers that they have everywhere in vervainfile, 1 to 24. What is wrong with
+ * it would have told. Refusals have the numbers that they have everywhere in vervainfile, 1 to 26. What is wrong with
  * what a call was lent begins at 32.
  *
  * Where several hold, the first is answered: VF_NULL before all others, then those that the head of the call's part
@@ -79,6 +79,8 @@ enum {
     VF_TOO_MANY_AREAS = 22,    /* 32 made areas are live */
     VF_NO_NUMBERS = 23,        /* the last number of a made area, 65535, was given */
     VF_TOO_BIG = 24,           /* a made area would have more pages than it may */
+    VF_WRONG_MANNER = 25,      /* the task has code of its own where it may not, or has none where it must */
+    VF_BAD_REF = 26,           /* no message has the ref yet */
 
     VF_NULL = 32,              /* a pointer is null */
     VF_BAD_LENGTH = 33,        /* no heap has so many bytes: a multiple of 8, 16 to 1 GiB; or no slot; or no file */
@@ -128,6 +130,8 @@ enum {
     text(VF_TOO_MANY_AREAS, "32 made areas are live")                                                                \
     text(VF_NO_NUMBERS, "the last number of a made area, 65535, was given")                                          \
     text(VF_TOO_BIG, "a made area would have more pages than it may")                                                \
+    text(VF_WRONG_MANNER, "the task has code of its own where it may not, or has none where it must")                \
+    text(VF_BAD_REF, "no message has the ref yet")                                                                   \
     text(VF_NULL, "a pointer is null")                                                                               \
     text(VF_BAD_LENGTH, "no heap has so many bytes: a multiple of 8, 16 to 1 GiB; or no slot; or no file")           \
     text(VF_SHORT, "the memory is shorter than what is in it, or than heap, map or text would be")                   \
@@ -301,7 +305,7 @@ uint32_t vf_heap_checked_block_size(const uint8_t *memory, size_t len, size_t ad
  * number of bytes above 4,294,967,295 is refused as that one is. An amount up or down is refused as the nearest one
  * from -2,147,483,648 to 2,147,483,647 is.
  *
- * A refused call leaves all `len` bytes. Where a refusal of the rules is answered, 1 to 24, it is proved that the
+ * A refused call leaves all `len` bytes. Where a refusal of the rules is answered, 1 to 26, it is proved that the
  * slot's pages and the struct stay; that the bytes behind these pages stay is tested. Where any other status is
  * answered, all of it is proved.
  */
@@ -543,7 +547,8 @@ struct vf_desk {
 enum {
     VF_TASK_PLAIN = 0, /* it sends and receives */
     VF_TASK_DEAF = 1,  /* it takes no DataSave */
-    VF_TASK_FILE = 2   /* it answers no RAMFetch, so that its receivers ask for a file */
+    VF_TASK_FILE = 2,  /* it answers no RAMFetch, so that its receivers ask for a file */
+    VF_TASK_RAW = 3    /* it has code of its own: your program takes and sends its messages */
 };
 
 /* What a poll did with its message. */
@@ -561,7 +566,8 @@ enum {
     VF_DID_SAVE = 10,          /* the `count` bytes of the source became the scrap file: `sent` is the DataLoad */
     VF_DID_LOAD = 11,          /* the scrap file of `count` bytes became the document: `sent` is the DataLoadAck */
     VF_DID_LOAD_AND_FAIL = 12, /* the same, but the answer failed by `refusal` */
-    VF_DID_FINISH = 13         /* the recipient has loaded the file */
+    VF_DID_FINISH = 13,        /* the recipient has loaded the file */
+    VF_DID_HAND_OUT = 14       /* the message was handed to a task with code of its own */
 };
 
 /* What a poll took and did. What does not apply is 0. */
@@ -573,7 +579,7 @@ struct vf_event {
     uint32_t did;      /* VF_DID_.. */
     uint32_t count;    /* bytes */
     uint32_t sent;     /* the ref of a message */
-    uint32_t refusal;  /* a status, 1 to 24 */
+    uint32_t refusal;  /* a status, 1 to 26 */
 };
 
 /* A message block: words in little-endian order, as the Wimp has them. The first says how many bytes there are, 20 to
@@ -644,7 +650,7 @@ uint32_t vf_desk_open(struct vf_desk *desk, uint32_t pages, uint32_t first_handl
 
 /* How many bytes a desk of so many pages takes at most, each request rounded up to 16 bytes, if no file was added: a
  * bound for an arena of your own (c/examples/arena.h). */
-#define VF_DESK_ROOM(pages) ((size_t)(pages) * 4857 + 40960)
+#define VF_DESK_ROOM(pages) ((size_t)(pages) * 4857 + 43008)
 
 /* Closes the desk, and gives back all memory that it took. The struct is all zeros then, and may be opened again. A
  * desk that is closed already stays so. */
@@ -653,7 +659,8 @@ uint32_t vf_desk_close(struct vf_desk *desk);
 /* -- tasks, and what they hand each other -- */
 
 /* Wimp_Initialise: starts a task with a receive buffer of 1 to 65,536 bytes, and tells its handle. `manner` is
- * VF_TASK_PLAIN, VF_TASK_DEAF or VF_TASK_FILE. VF_NAME_IN_USE, VF_TOO_MANY_TASKS, VF_NO_HANDLES, VF_NO_ROOM. */
+ * VF_TASK_PLAIN, VF_TASK_DEAF, VF_TASK_FILE or VF_TASK_RAW. VF_NAME_IN_USE, VF_TOO_MANY_TASKS, VF_NO_HANDLES,
+ * VF_NO_ROOM. */
 uint32_t vf_desk_task(struct vf_desk *desk, const uint8_t *name, size_t name_len, uint32_t buffer, uint32_t manner,
                       uint32_t *handle);
 
@@ -663,7 +670,7 @@ uint32_t vf_desk_kill(struct vf_desk *desk, const uint8_t *name, size_t name_len
 
 /* Wimp_SendMessage with Message_DataSave: offers the anchor's block to the task `to` under a leafname of 1 to 10
  * bytes, and tells the message's ref, which is the id of the transfer. VF_NO_NAME, VF_NO_BLOCK, VF_BUSY, VF_NO_TASK,
- * VF_NO_REFS, VF_QUEUE_FULL, VF_NO_ROOM. */
+ * VF_NO_REFS, VF_QUEUE_FULL, VF_NO_ROOM, VF_WRONG_MANNER where the task has code of its own. */
 uint32_t vf_desk_save(struct vf_desk *desk, const uint8_t *name, size_t name_len, uint32_t anchor, const uint8_t *to,
                       size_t to_len, const uint8_t *leaf, size_t leaf_len, uint32_t *my_ref);
 
@@ -826,6 +833,45 @@ uint32_t vf_desk_rma_write(struct vf_desk *desk, uint32_t address, uint32_t offs
  * lie whole in one live block, or where the two share a byte. */
 uint32_t vf_desk_transfer(struct vf_desk *desk, uint32_t from, uint32_t address, uint32_t to, uint32_t address2,
                           uint32_t n);
+
+/* -- tasks with code of their own --
+ *
+ * A task of VF_TASK_RAW plays no part by itself: your program takes its messages and answers them. The desk writes who
+ * has sent a message, and changes no byte of another task but in a buffer that this task opened. Messages and pages are
+ * shared by all: one task can use them up. Tasks are told by their handles, as in a message block. All but vf_desk_take
+ * test last that the task has code of its own, VF_WRONG_MANNER, and then that a ref was given, VF_BAD_REF.
+ */
+
+/* Wimp_Poll: takes the task's next message, and tells it as its block, and its reason code, 0 where there is none. The
+ * bytes behind the message stay. A task that the desk plays does what the message asks for. VF_NO_NAME. */
+uint32_t vf_desk_take(struct vf_desk *desk, const uint8_t *name, size_t name_len, struct vf_message *message,
+                      uint32_t *code);
+
+/* Wimp_SendMessage: sends a message with code 17 or 18 to the task `to`, with the ref of the message that it answers,
+ * 0 for an original, its action, and up to 236 bytes of whole words behind that. Tells its ref. VF_NO_NAME, VF_NO_TASK,
+ * VF_NO_REFS, VF_QUEUE_FULL, VF_NO_ROOM, VF_WRONG_MANNER, VF_BAD_REF. */
+uint32_t vf_desk_send(struct vf_desk *desk, const uint8_t *name, size_t name_len, uint32_t code, uint32_t to,
+                      uint32_t your_ref, uint32_t action, const uint8_t *bytes, size_t bytes_len, uint32_t *my_ref);
+
+/* Wimp_SendMessage with code 19: says that the message which the task holds is answered, so that it does not come back
+ * to its sender. Tells its ref, 0 where none is held. VF_NO_NAME, VF_WRONG_MANNER. */
+uint32_t vf_desk_ack(struct vf_desk *desk, const uint8_t *name, size_t name_len, uint32_t *answered);
+
+/* Wimp_TransferBlock: moves `n` bytes at an address of the task to a place that the task `to` opened: of one that the
+ * desk plays in the buffer of a transfer that fetches from this task; of another in what a RAMFetch names that this
+ * task holds. VF_NO_NAME, VF_BAD_RANGE, VF_NO_TASK, VF_WRONG_MANNER. */
+uint32_t vf_desk_transfer_to(struct vf_desk *desk, const uint8_t *name, size_t name_len, uint32_t address, uint32_t to,
+                             uint32_t place, uint32_t n);
+
+/* Wimp_SendMessage with Message_DataLoad: makes the anchor's block the scrap file, and tells the task `to` of it, in
+ * answer to a DataSaveAck's ref. Tells the DataLoad's ref. VF_NO_NAME, VF_NO_BLOCK, VF_BUSY where there is a scrap
+ * file, VF_NO_TASK, VF_NO_REFS, VF_QUEUE_FULL, VF_NO_ROOM, VF_WRONG_MANNER, VF_BAD_REF. */
+uint32_t vf_desk_spool(struct vf_desk *desk, const uint8_t *name, size_t name_len, uint32_t anchor, uint32_t to,
+                       uint32_t your_ref, uint32_t *my_ref);
+
+/* Puts the bytes of the scrap file into a new flex block, and tells its address: the task holds the file's DataLoad.
+ * The file stays. VF_NO_NAME, VF_NO_FILE, VF_ANCHOR_IN_USE, VF_NO_ROOM, VF_WRONG_MANNER. */
+uint32_t vf_desk_scrap(struct vf_desk *desk, const uint8_t *name, size_t name_len, uint32_t anchor, uint32_t *address);
 
 /* -- lines -- */
 
@@ -1375,6 +1421,29 @@ VF_UNLESS_NULL(vf_desk_rma_write,
 VF_UNLESS_NULL(vf_desk_transfer,
                (struct vf_desk *desk, uint32_t from, uint32_t address, uint32_t to, uint32_t address2, uint32_t n),
                desk, (desk, from, address, to, address2, n))
+VF_UNLESS_NULL(vf_desk_take,
+               (struct vf_desk *desk, const uint8_t *name, size_t name_len, struct vf_message *message,
+                uint32_t *code),
+               desk && name && message && code, (desk, name, name_len, message, code))
+VF_UNLESS_NULL(vf_desk_send,
+               (struct vf_desk *desk, const uint8_t *name, size_t name_len, uint32_t code, uint32_t to,
+                uint32_t your_ref, uint32_t action, const uint8_t *bytes, size_t bytes_len, uint32_t *my_ref),
+               desk && name && bytes && my_ref,
+               (desk, name, name_len, code, to, your_ref, action, bytes, bytes_len, my_ref))
+VF_UNLESS_NULL(vf_desk_ack,
+               (struct vf_desk *desk, const uint8_t *name, size_t name_len, uint32_t *answered),
+               desk && name && answered, (desk, name, name_len, answered))
+VF_UNLESS_NULL(vf_desk_transfer_to,
+               (struct vf_desk *desk, const uint8_t *name, size_t name_len, uint32_t address, uint32_t to,
+                uint32_t place, uint32_t n),
+               desk && name, (desk, name, name_len, address, to, place, n))
+VF_UNLESS_NULL(vf_desk_spool,
+               (struct vf_desk *desk, const uint8_t *name, size_t name_len, uint32_t anchor, uint32_t to,
+                uint32_t your_ref, uint32_t *my_ref),
+               desk && name && my_ref, (desk, name, name_len, anchor, to, your_ref, my_ref))
+VF_UNLESS_NULL(vf_desk_scrap,
+               (struct vf_desk *desk, const uint8_t *name, size_t name_len, uint32_t anchor, uint32_t *address),
+               desk && name && address, (desk, name, name_len, anchor, address))
 VF_UNLESS_NULL(vf_desk_line,
                (struct vf_desk *desk, const uint8_t *line, size_t line_len),
                desk && line, (desk, line, line_len))
@@ -1558,6 +1627,12 @@ VF_UNLESS_NULL(vf_message_decode,
 #define vf_desk_rma_read vf_desk_rma_read_unless_null
 #define vf_desk_rma_write vf_desk_rma_write_unless_null
 #define vf_desk_transfer vf_desk_transfer_unless_null
+#define vf_desk_take vf_desk_take_unless_null
+#define vf_desk_send vf_desk_send_unless_null
+#define vf_desk_ack vf_desk_ack_unless_null
+#define vf_desk_transfer_to vf_desk_transfer_to_unless_null
+#define vf_desk_spool vf_desk_spool_unless_null
+#define vf_desk_scrap vf_desk_scrap_unless_null
 #define vf_desk_line vf_desk_line_unless_null
 #define vf_desk_reply vf_desk_reply_unless_null
 #define vf_sender_start vf_sender_start_unless_null
