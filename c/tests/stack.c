@@ -13,7 +13,7 @@
 
 enum { ROOM = 1 << 20, STACK = 1 << 20, FILL = 0xa5, KIB = 1024, GUARD = 64 * KIB };
 enum { FEW = KIB, TRANSFER = 2 * KIB, QUESTION = 4 * KIB, COMMAND = 8 * KIB };
-enum { OPENING = 16 * KIB };
+enum { OPENING = 16 * KIB, LINE = 10 * KIB };
 enum { SMALL_STACK = 24 * KIB, WHOLE_STACK = 64 * KIB };
 
 static uint8_t memory[ROOM], bytes[8192];
@@ -221,6 +221,13 @@ static void desk_programs(void)
     vf_desk_kill(&desk, VF_TEXT("raw"));
 }
 static void desk_line(void) { vf_desk_line(&desk, VF_TEXT("areas")); }
+static void desk_poll_lines(void)
+{
+    vf_desk_line(&desk, VF_TEXT("task raw 1 raw"));
+    vf_desk_line(&desk, VF_TEXT("send raw 18 2 0 1 0000000000000000000000000000000006000000ff0f0000646f6300"));
+    vf_desk_line(&desk, VF_TEXT("poll b"));
+    vf_desk_line(&desk, VF_TEXT("kill raw"));
+}
 static void desk_next(void) { vf_desk_next(&desk, B, &message, &told); }
 static void desk_heap_reply(void)
 {
@@ -254,7 +261,7 @@ static const struct { const char *name; void (*call)(void); size_t most; } CALLS
     {"desk flex", desk_flex, COMMAND},       {"desk heaps", desk_heaps, COMMAND},
     {"desk areas", desk_areas, COMMAND},     {"desk transfer", desk_transfer, COMMAND},
     {"desk questions", desk_questions, COMMAND}, {"desk bytes", desk_bytes, COMMAND},
-    {"desk programs", desk_programs, COMMAND},
+    {"desk programs", desk_programs, COMMAND}, {"desk lines of polls", desk_poll_lines, LINE},
     {"desk line", desk_line, COMMAND},       {"desk next", desk_next, QUESTION},
     {"desk reply", desk_reply, QUESTION},    {"desk reply to heap", desk_heap_reply, COMMAND},
     {"desk kill", desk_kill, COMMAND},       {"desk close", desk_close, QUESTION},
