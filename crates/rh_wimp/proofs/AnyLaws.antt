@@ -1,16 +1,26 @@
 -- What messages of any action say, by what a block says.
 use Rattle.rh_wimp.proofs.Common.{◌≡◌, ◌≢◌, ℕ, ◌+◌, ◌-◌, ◌%◌, ◌≤◌, ◌<◌, ◌^◌, Bool, true, false, List, length, refl, sym, ap, ◌∙◌, arith, Option, Some, None}
-use Rattle.rh_wimp.proofs.Common.{Result, Ok, Err, unwrap_or, not, word, word_bytes, part, with_part, action_at, any_decoded, Body, Message, MessageFault}
-use Rattle.rh_wimp.proofs.Common.{DataSave, DataSaveAck, DataLoad, DataLoadAck, RamFetch, RamTransmit, Other, cond_true, cond_false, eqb, eqb_same, leb}
+use Rattle.rh_wimp.proofs.Common.{subst, Result, Ok, Err, unwrap_or, not, word, word_bytes, part, with_part, action_at, any_decoded, Body, Message}
+use Rattle.rh_wimp.proofs.Common.{MessageFault, DataSave, DataSaveAck, DataLoad, DataLoadAck, RamFetch, RamTransmit, Other, ◌==◌, cond_true, cond_false, eqb}
+use Rattle.rh_wimp.proofs.Common.{eqb_same, leb}
 use Rattle.std.proofs.lemmas.Bool.Decides.{nat_tests}
-use Rattle.std.specs.Prelude.{is_some, ◌&&◌}
+use Rattle.std.specs.Prelude.{is_some, ◌&&◌, drop, if◌then◌else◌, nat_eq, nat_lt, take}
+use Rattle.std.specs.List.{list_all}
+use Rattle.std.proofs.lemmas.List.{take_all}
+use Rattle.std.proofs.Common.{length-drop}
+use Rattle.std.proofs.lemmas.List.Quantifiers.{position-Some}
 use Rattle.std.specs.Result.{result_ok}
 use Rattle.rh_defs.specs.Bytes.{put_word}
 use Rattle.rh_defs.specs.AnyMessage.{body_of, kind_read, read_body}
-use Rattle.rh_defs.specs.MessageImage.{body_for, has_length}
-use Rattle.rh_defs.specs.OtherBodies.{is_exact, is_other, is_whole}
+use Rattle.rh_defs.specs.MessageImage.{about_file, body_for, file_in, has_length, name_length}
+use Rattle.rh_defs.specs.OtherBodies.{ends_at, is_exact, is_other, is_whole}
+use Rattle.rh_defs.specs.Pieces.{round_up}
+use Rattle.rh_defs.specs.declared.message.Action.{Action}
+use Rattle.rh_defs.specs.declared.message.Action.TheVariants as action
+use Rattle.rh_defs.specs.declared.message.FileData.{FileData}
 use Rattle.rh_defs.specs.declared.message.MessageFault.TheVariants.{BadLength}
-use Rattle.rh_defs.proofs.BytesLaws.{part-put, word-put_below, word-put_word}
+use Rattle.rh_wimp.specs.Chains.{body_as}
+use Rattle.rh_defs.proofs.BytesLaws.{length-part, part-drop, part-part, part-put, word-put_below, word-put_word}
 use Rattle.rh_defs.proofs.BlockKindLaws.{exact-found, same-kind}
 use Rattle.rh_defs.proofs.MessageImageLaws.{both_are}
 
@@ -23,13 +33,40 @@ other-is a d e = cond_false (is_exact a d) _ _ (inexact (is_whole d) (is_exact a
     inexact true false q = refl
     inexact false x q = absurd cc
 
-pub exact-is : (a : ℕ) (d : List ℕ) → is_whole d ≡ true → is_other a d ≢ true → is_exact a d ≡ true
-exact-is a d w n = go (is_whole d) (is_exact a d) w n
-  where
-    go : (w x : Bool) → w ≡ true → (w && not x) ≢ true → x ≡ true
-    go true true p q = refl
-    go true false p q = absurd (q refl)
-    go false x p q = absurd cc
+pub inexact-other : (a : ℕ) (d : List ℕ) → is_whole d ≡ true → is_exact a d ≡ false → is_other a d ≡ true
+inexact-other a d w n = ap (λ x. is_whole d && not x) n ∙ ap (λ x. x && true) w
+
+-- ---- the name at the end of a block
+pub name-there : (b : List ℕ) (end n : ℕ) → name_length b end ≡ Some n → n < end - 44
+name-there b end n e =
+    omega (arith, (position-Some (λ x. x == 0) (part b 44 (end - 44)) n 0 e).0, length-part b 44 (end - 44))
+
+pub tail-there : (b : List ℕ) (end n : ℕ) → name_length b end ≡ Some n → end ≤ length b
+    → drop n (part b 44 (end - 44)) ≡ take (end - (44 + n)) (drop (44 + n) b)
+tail-there b end n e high =
+    let w = name-there b end n e in
+    let x = part b 44 (end - 44) in
+    let l = length-part b 44 (end - 44) in
+    let k = end - 44 - n in
+    sym (part-drop x n k (omega (arith, l)) ∙ take_all k (drop n x) (omega (arith, length-drop n x, l)))
+    ∙ part-part b 44 (end - 44) n k (omega arith)
+    ∙ ap (part b (44 + n)) (let q : k ≡ end - (44 + n) = omega arith in q)
+    ∙ part-drop b (44 + n) (end - (44 + n)) (omega arith)
+
+pub name-behind : (b : List ℕ) (end : ℕ) → 44 ≤ end → end ≤ length b → drop 24 (part b 20 (end - 20)) ≡ part b 44 (end - 44)
+name-behind b end low high =
+    let x = part b 20 (end - 20) in
+    let l = length-part b 20 (end - 20) in
+    let k = end - 44 in
+    sym (part-drop x 24 k (omega (arith, l)) ∙ take_all k (drop 24 x) (omega (arith, length-drop 24 x, l)))
+    ∙ part-part b 20 (end - 20) 24 k (omega arith)
+
+pub ends-there : (x : List ℕ) (n : ℕ) → length x ≡ round_up 4 (n + 1) → list_all (λ y. y == 0) (drop n x) ≡ ends_at x (Some n)
+ends-there x n e = ap (λ t. t && list_all (λ y. y == 0) (drop n x)) (sym (eqb_same (length x) (round_up 4 (n + 1)) e))
+
+pub ends-elsewhere : (x : List ℕ) (n m : ℕ) → m ≡ round_up 4 (n + 1) → nat_eq (length x) m ≡ false → false ≡ ends_at x (Some n)
+ends-elsewhere x n m is e =
+    ap (λ t. t && list_all (λ y. y == 0) (drop n x)) (sym (ap (nat_eq (length x)) (sym is) ∙ e))
 
 -- the kind whose own message has just the action and the bytes of a block
 pub record KindAt (b : List ℕ) (end a : ℕ) : Type 0 where
@@ -66,6 +103,31 @@ read-same (DataLoadAck f) n = refl
 read-same (RamFetch x y) n = refl
 read-same (RamTransmit x y) n = refl
 read-same (Other o) n = absurd (n o refl)
+
+-- so is one that was read in a block
+file-same : (make : FileData → Body) → ((f : FileData) → read_body (make f) ≡ make f) → (r : Result FileData MessageFault) (body : Body)
+    → result_ok (about_file make r) ≡ Some body → read_body body ≡ body
+file-same make same (Ok f) body e = let is : make f ≡ body = cc in subst (λ x. read_body x ≡ x) is (same f)
+file-same make same (Err fault) body e = absurd cc
+
+ram-same : (make : ℕ → ℕ → Body) → ((x y : ℕ) → read_body (make x y) ≡ make x y) → (t : Bool) (x y : ℕ) (body : Body)
+    → result_ok (let r : Result Body MessageFault = if t then Err BadLength else Ok (make x y) in r) ≡ Some body → read_body body ≡ body
+ram-same make same true x y body e = absurd cc
+ram-same make same false x y body e = let is : make x y ≡ body = cc in subst (λ z. read_body z ≡ z) is (same x y)
+
+kind-same : (b : List ℕ) (end : ℕ) (o : Option Action) (body : Body) → result_ok (body_for b end o) ≡ Some body → read_body body ≡ body
+kind-same b end None body e = absurd cc
+kind-same b end (Some action.DataSave) body e = file-same DataSave (λ f. refl) (file_in b end) body e
+kind-same b end (Some action.DataSaveAck) body e = file-same DataSaveAck (λ f. refl) (file_in b end) body e
+kind-same b end (Some action.DataLoad) body e = file-same DataLoad (λ f. refl) (file_in b end) body e
+kind-same b end (Some action.DataLoadAck) body e = file-same DataLoadAck (λ f. refl) (file_in b end) body e
+kind-same b end (Some action.RamFetch) body e = ram-same RamFetch (λ x y. refl) (nat_lt end 28) (word b 20) (word b 24) body e
+kind-same b end (Some action.RamTransmit) body e = ram-same RamTransmit (λ x y. refl) (nat_lt end 28) (word b 20) (word b 24) body e
+kind-same b end (Some (action.Other n)) body e = absurd cc
+
+pub kind-as : {b : List ℕ} {end a : ℕ} (played : Bool) (k : KindAt b end a) → body_as played k.body ≡ k.body
+kind-as {b} {end} {a} true k = kind-same b end (action_at a) k.body k.read
+kind-as false k = refl
 
 -- ---- a message of any action
 pub any-short : (b : List ℕ) → has_length b ≡ false → any_decoded b ≡ Err BadLength

@@ -1,10 +1,14 @@
 -- The queue's entries and the module area's heap, and the post that they spell.
-use Rattle.std.specs.Prelude.{◌≡◌, ◌≢◌, ℕ, ◌<◌, ◌≤◌, ◌==◌, true, if◌then◌else◌, List, [], ◌∷◌, ◌++◌, length, map, filter, get_or, Option, Some, None}
+use Rattle.std.specs.Prelude.{◌≡◌, ◌≢◌, ℕ, ◌<◌, ◌≤◌, ◌==◌, Bool, true, false, if◌then◌else◌, List, [], ◌∷◌, ◌++◌, length, map, filter, get_or}
+use Rattle.std.specs.Prelude.{Option, Some, None}
 use Rattle.rh_defs.specs.Heap.{Heap}
 use Rattle.rh_defs.specs.Memory.{Memory}
 use Rattle.rh_module.specs.ModuleArea.{module_heap_in}
 use Rattle.rh_module.specs.declared.module.Module.{Module}
 use Rattle.rh_defs.specs.Blocks.{block_bytes, SameShape}
+use Rattle.rh_defs.specs.AnyMessage.{read_body}
+use Rattle.rh_defs.specs.declared.message.Body.{Body}
+use Rattle.rh_defs.specs.declared.message.Message.{Message}
 use Rattle.rh_defs.specs.Messages.{Parcel, Fits, padded}
 use Rattle.rh_defs.specs.Post.{Seat, Post, has_seat, live_count, most_messages}
 use Rattle.rh_wimp.specs.declared.chain.Entry.{Entry}
@@ -145,6 +149,18 @@ pub record LiesAt (m : Memory) (module_area : Module) (block : ℕ) (p : Parcel)
 -- what a poll hands out
 abbrev pub event_of : Parcel → Event
 event_of p = record { code = p.code; message = p.message }
+
+-- what is said as it is, or as a task that the desk plays reads it
+abbrev pub body_as : Bool → Body → Body
+body_as true body = read_body body
+body_as false body = body
+
+-- such a message, and what a poll hands out of it
+abbrev pub message_as : Bool → Message → Message
+message_as played m = record m { body = body_as played m.body }
+
+abbrev pub event_as : Bool → Parcel → Event
+event_as played p = record { code = p.code; message = message_as played p.message }
 
 -- ---- edits of entries
 -- a block more at the end of the chain

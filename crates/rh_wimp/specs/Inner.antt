@@ -3,5 +3,6 @@ pub mod ChainEdits
 pub mod Deaths
 pub mod LetterRefusals
 pub mod LooseMessages
+pub mod ReadAs
 pub mod Searches
 pub mod Settling

@@ -8,6 +8,7 @@ ghost use Rattle.rh_defs.specs.MessageImage.{SpellsMessage, body_for, decoded, f
 ghost use Rattle.rh_defs.specs.MessageImage.{name_length};
 ghost use Rattle.rh_defs.specs.Pathnames.{is_plain};
 ghost use Rattle.rh_defs.specs.declared.message.Message.{Message as SpecMessage};
+ghost use Rattle.rh_wimp.specs.Inner.ReadAs.{body_about, decoded_as};
 ghost use Rattle.rh_wimp.specs.declared.layout.TheConstants.{LEAST_LENGTH, MY_REF, NAME, SENDER, YOUR_REF};
 
 use crate::any_body::any_body;
@@ -26,7 +27,7 @@ fn first_zero(bytes: &[u8]) -> Option<usize>
 }
 
 /// The length of the name that begins at offset 44 and ends before a zero byte below `end`.
-fn name_length(bytes: &[u8], end: usize) -> Option<usize>
+pub(crate) fn name_length(bytes: &[u8], end: usize) -> Option<usize>
     requires low { NAME ≤ end }
     requires high { end ≤ length bytes.now }
     ensures { result ≡ name_length bytes.now end }
@@ -67,7 +68,21 @@ fn decode_file(bytes: &[u8], end: usize) -> Result<FileData, MessageFault>
     })
 }
 
+/// What a message about a file says, by its action.
+#[inline(always)]
+fn file_body(action: Action, file: FileData) -> Body
+    ensures { result ≡ body_about action file }
+{
+    match action {
+        Action::DataSave => Body::DataSave(file),
+        Action::DataSaveAck => Body::DataSaveAck(file),
+        Action::DataLoad => Body::DataLoad(file),
+        _ => Body::DataLoadAck(file),
+    }
+}
+
 /// Data of a message of so many bytes, whose action this is.
+#[inline(always)]
 pub(crate) fn decode_body(bytes: &[u8], end: usize, action: Action) -> Result<Body, MessageFault>
     requires low { LEAST_LENGTH ≤ end }
     requires high { end ≤ length bytes.now }
@@ -75,10 +90,6 @@ pub(crate) fn decode_body(bytes: &[u8], end: usize, action: Action) -> Result<Bo
     ensures { result ≡ body_for bytes.now end (Some action) }
 {
     match action {
-        Action::DataSave => Ok(Body::DataSave(decode_file(bytes, end)?)),
-        Action::DataSaveAck => Ok(Body::DataSaveAck(decode_file(bytes, end)?)),
-        Action::DataLoad => Ok(Body::DataLoad(decode_file(bytes, end)?)),
-        Action::DataLoadAck => Ok(Body::DataLoadAck(decode_file(bytes, end)?)),
         Action::RamFetch => {
             if end < LEAST_RAM_LENGTH {
                 return Err(MessageFault::BadLength);
@@ -98,6 +109,9 @@ pub(crate) fn decode_body(bytes: &[u8], end: usize, action: Action) -> Result<Bo
             })
         }
         Action::Other(_) => Err(MessageFault::BadAction),
+        Action::DataSave | Action::DataSaveAck | Action::DataLoad | Action::DataLoadAck => {
+            Ok(file_body(action, decode_file(bytes, end)?))
+        }
     }
 }
 
@@ -157,6 +171,18 @@ pub fn decode_any(bytes: &[u8]) -> Result<Message, MessageFault>
     if !has_length(bytes) {
         return Err(MessageFault::BadLength);
     }
-    let body = any_body(bytes, get_word(bytes, 0) as usize);
+    let body = any_body(bytes, get_word(bytes, 0) as usize, false);
+    Ok(message_with(bytes, body))
+}
+
+/// Reads a message of any action as `decode_any` does, as it is or as a task that the desk plays reads it.
+#[inline(always)]
+pub(crate) fn decode_as(bytes: &[u8], played: bool) -> Result<Message, MessageFault>
+    ensures { result ≡ decoded_as played (any_decoded bytes.now) }
+{
+    if !has_length(bytes) {
+        return Err(MessageFault::BadLength);
+    }
+    let body = any_body(bytes, get_word(bytes, 0) as usize, played);
     Ok(message_with(bytes, body))
 }

@@ -1,5 +1,5 @@
 //! Messages out of the queue, and those that come back.
-ghost use Rattle.std.specs.Prelude.{◌≡◌, ◌≢◌, ◌<◌, ◌∷◌, ℕ, Some, None, IfNone, IfSome, length};
+ghost use Rattle.std.specs.Prelude.{◌≡◌, ◌≢◌, ◌<◌, ◌∷◌, ℕ, true, Some, None, IfNone, IfSome, length};
 ghost use Rattle.std.specs.Option.{option_map};
 ghost use Rattle.rh_defs.specs.declared.sizes.TheConstants.{MOST_MESSAGES};
 ghost use Rattle.rh_defs.specs.Heap.{Heap};
@@ -8,7 +8,7 @@ ghost use Rattle.rh_defs.specs.Messages.{Parcel};
 ghost use Rattle.rh_defs.specs.Post.{Post, bounce_held, bounced, held_by, post_poll, taken};
 ghost use Rattle.rh_module.specs.ModuleArea.{IsModule, module_heap_in};
 ghost use Rattle.rh_wimp.specs.QueueCalls.{Answers, IsQueue, LeavesChains, handles_of};
-ghost use Rattle.rh_wimp.specs.Chains.{HasEntry, ArePostChains, SpellsPostIn, entry_at, event_of};
+ghost use Rattle.rh_wimp.specs.Chains.{HasEntry, ArePostChains, SpellsPostIn, entry_at, event_as, event_of};
 ghost use Rattle.rh_wimp.specs.Inner.LooseMessages.{TakesFirst, MayBounce};
 ghost use Rattle.rh_wimp.specs.Inner.ChainEdits.{emptied_chains, holding_chains};
 
@@ -16,7 +16,7 @@ use crate::chain::{Entry, append, find, shortened};
 use crate::layout::{CODE, LINK, MESSAGE, SENDER};
 use crate::placing::free;
 use crate::queue::Queue;
-use crate::reading::{read_code, read_message};
+use crate::reading::{read_as, read_code};
 use rh_defs::{Event, EventCode, Handle};
 use rh_module::Module;
 use rh_store::Pages;
@@ -43,7 +43,30 @@ impl Queue {
             return None;
         };
         self.bounce_held(store, module_area, at);
-        self.take(store, module_area, at)
+        self.take(store, module_area, at, false)
+    }
+
+    /// Does what `poll` does, and hands the message out as a task that the desk plays reads it.
+    #[inline(always)]
+    pub fn poll_read<S: Pages>(
+        &mut self,
+        store: &mut S,
+        module_area: Module,
+        handle: Handle,
+    ) -> Option<Event>
+        requires queue { IsQueue (S.memory store.old) module_area self.old }
+        requires live { HasEntry handle self.old }
+        ensures answer { Answers (S.memory store.old) module_area self.old
+            (λ post. option_map (event_as true) (post_poll handle post).1) result }
+        ensures leaves { LeavesChains (S.memory store.old) (S.memory store.new) module_area self.old self.new
+            (λ post. (post_poll handle post).0) }
+        ensures handles { handles_of self.new ≡ handles_of self.old }
+    {
+        let Some(at) = find(&self.entries, handle) else {
+            return None;
+        };
+        self.bounce_held(store, module_area, at);
+        self.take(store, module_area, at, true)
     }
 
     /// Bounces the message that a task holds, if there is one.
@@ -137,15 +160,22 @@ impl Queue {
         self.live += 1;
     }
 
-    /// Takes the first message of a task that holds none.
-    fn take<S: Pages>(&mut self, store: &mut S, module_area: Module, at: usize) -> Option<Event>
+    /// Takes the first message of a task that holds none, as it is or as a task that the desk plays reads it.
+    #[inline(always)]
+    fn take<S: Pages>(
+        &mut self,
+        store: &mut S,
+        module_area: Module,
+        at: usize,
+        played: bool,
+    ) -> Option<Event>
         requires module { IsModule (S.memory store.old) module_area }
         requires within { at < length self.old.entries }
         requires post { (post : Post) × SpellsPostIn (S.memory store.old) module_area self.old post ×
             (held_by (entry_at self.old.entries at).handle post.seats ≡ None) }
         ensures answer { (post : Post) → SpellsPostIn (S.memory store.old) module_area self.old post → held_by
             (entry_at self.old.entries at).handle post.seats ≡ None
-            → result ≡ option_map event_of (taken (entry_at self.old.entries at).handle post).1 }
+            → result ≡ option_map (event_as played) (taken (entry_at self.old.entries at).handle post).1 }
         ensures spells { (post : Post) → SpellsPostIn (S.memory store.old) module_area self.old post → held_by
             (entry_at self.old.entries at).handle post.seats ≡ None
             → SpellsPostIn (S.memory store.new) module_area self.new
@@ -157,7 +187,7 @@ impl Queue {
             return None;
         };
         let code = read_code(store, module_area, block);
-        let message = read_message(store, module_area, block);
+        let message = read_as(store, module_area, block, played);
         if code.is_recorded() {
             self.hold(at, block);
         } else {

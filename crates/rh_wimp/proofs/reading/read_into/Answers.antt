@@ -4,6 +4,8 @@ use Rattle.rh_wimp.proofs.Common.{encoded-most}
 use Rattle.rh_wimp.proofs.Common.{room_enough, length_read, length-padded, message_read}
 use Rattle.std.specs.Result.{IsOk}
 use Rattle.rh_defs.specs.AnyMessage.{any_decoded}
+use Rattle.rh_wimp.specs.Chains.{message_as}
+use Rattle.rh_wimp.specs.Inner.ReadAs.{decoded_as}
 use Rattle.rh_defs.proofs.AnyMessageLaws.{any-encoded}
 use Rattle.rh_wimp.proofs.ItemLaws.{links-bytes, links-has}
 use Rattle.rh_wimp.proofs.reading.read_into.Goals as goal
@@ -60,7 +62,8 @@ read_bytes-requires-clause-block g c =
 answered : (g : given.Over) (c : After-read_word-length g) (to : List ℕ) (result : Result Message MessageFault) (link : ℕ) (p : Parcel)
     → LinksAt (g.S.Words.memory c.args.store.now) c.args.module_area c.args.block link p
     → ((bytes : List ℕ) → block_bytes c.args.block (module_heap_in (g.S.Words.memory c.args.store.now) c.args.module_area) ≡ Some bytes
-    → to ≡ part bytes 8 (length (take c.read_word-length.result c.args.buffer.now))) → result ≡ any_decoded to → result ≡ Ok p.message
+    → to ≡ part bytes 8 (length (take c.read_word-length.result c.args.buffer.now))) → result ≡ decoded_as c.args.played (any_decoded to)
+    → result ≡ Ok (message_as c.args.played p.message)
 answered g c to result link p w r e =
     let m = measured g c link p w in
     let is = m.0 in
@@ -69,18 +72,18 @@ answered g c to result link p w r e =
     let t = length-take c.read_word-length.result c.args.buffer.now in
     let b = r (padded link p) (links-bytes w)
     ∙ message_read link p (length (take c.read_word-length.result c.args.buffer.now)) (omega arith) in
-    e ∙ ap any_decoded b ∙ any-encoded p.message w.lies.fits
+    e ∙ ap (λ x. decoded_as c.args.played (any_decoded x)) b ∙ ap (decoded_as c.args.played) (any-encoded p.message w.lies.fits)
 
 pub unwrap-requires : goal.unwrap-requires
 unwrap-requires g c =
     let l = c.requires.lies in
     subst IsOk (sym (answered g
-    (goal.at.unwrap-requires g c).After-read_word-length c.read_bytes.new.to c.decode_any.result l.0 l.1.0 l.1.1 c.read_bytes.ensures
-    c.decode_any.ensures)) refl
+    (goal.at.unwrap-requires g c).After-read_word-length c.read_bytes.new.to c.decode_as.result l.0 l.1.0 l.1.1 c.read_bytes.ensures
+    c.decode_as.ensures)) refl
 
 pub returns : goal.returns
 returns g c = λ link p w.
-    let e : ◌≡◌ {A = Result Message MessageFault} (Ok c.unwrap.result) (Ok p.message) =
-    sym c.unwrap.ensures ∙ answered g (goal.at.returns g c).After-read_word-length c.read_bytes.new.to c.decode_any.result link p w c.read_bytes.ensures
-    c.decode_any.ensures in
+    let e : ◌≡◌ {A = Result Message MessageFault} (Ok c.unwrap.result) (Ok (message_as c.args.played p.message)) =
+    sym c.unwrap.ensures ∙ answered g (goal.at.returns g c).After-read_word-length c.read_bytes.new.to c.decode_as.result link p w c.read_bytes.ensures
+    c.decode_as.ensures in
     cc
