@@ -30,19 +30,19 @@ use Rattle.rh_tasks.proofs.Common.{mapped-at, reordered-at}
 use Rattle.rh_defs.specs.declared.message.Event.{Event}
 use Rattle.rh_defs.specs.declared.reply.Reply.TheVariants as reply
 use Rattle.rh_defs.specs.declared.reply.Outcome.TheVariants.{Taken}
-use Rattle.rh_defs.specs.AnyMessage.{as_read, read_body}
+use Rattle.rh_defs.specs.AnyMessage.{as_read}
 use Rattle.rh_defs.specs.Messages.{action_of}
 use Rattle.rh_defs.specs.RawTasks.{is_raw}
 use Rattle.rh_defs.specs.Commands.{poll, poll_taken}
 use Rattle.rh_defs.specs.Transfer.{handled}
 use Rattle.rh_defs.proofs.OrderSteps.{Alike, handled-alike}
-use Rattle.rh_wimp.specs.Chains.{event_of}
+use Rattle.rh_wimp.specs.Chains.{event_as}
 use Rattle.rh_tasks.specs.Inner.PollSteps.{received_as}
 use Rattle.rh_tasks.proofs.Reorders.{reordered-trans}
 
 -- ---- an event is a parcel without its recipient and block
 
-pub none-taken : (o : Option Parcel) → (let x : Option Event = None in x) ≡ option_map event_of o → o ≡ None
+pub none-taken : (o : Option Parcel) → (let x : Option Event = None in x) ≡ option_map (event_as true) o → o ≡ None
 none-taken None e = refl
 none-taken (Some p) e = absurd cc
 
@@ -50,12 +50,12 @@ pub record IsTaken (o : Option Parcel) (code : EventCode) (message : Message) : 
   pub parcel : Parcel
   pub is : o ≡ Some parcel
   pub code_is : parcel.code ≡ code
-  pub message_is : parcel.message ≡ message
+  pub message_is : (as_read parcel).message ≡ message
 
-pub some-taken : (o : Option Parcel) (x : Event) → Some x ≡ option_map event_of o → IsTaken o x.code x.message
+pub some-taken : (o : Option Parcel) (x : Event) → Some x ≡ option_map (event_as true) o → IsTaken o x.code x.message
 some-taken None x e = absurd cc
 some-taken (Some p) x e =
-    let same : x ≡ event_of p = cc in
+    let same : x ≡ event_as true p = cc in
     record { parcel = p; is = refl; code_is = sym (ap (λ (y : Event). y.code) same); message_is = sym (ap (λ (y : Event). y.message) same) }
 
 -- ---- two desks that differ in the order of messages to different tasks alone
@@ -85,10 +85,6 @@ received-too d e t p code r last outcome = go (is_raw t.manner)
         × IsReordered (if b then (d, Taken) else handled d t p code).0 last
     go true q h = (q, reordered-trans r h)
     go false q h = handled-too d e t p code r last outcome q h
-
--- the message as it is read
-abbrev pub read_as : Message → Message
-read_as message = record message { body = read_body message.body }
 
 -- ---- the command
 
@@ -128,9 +124,6 @@ module _ {m : Memory} {seats : List Seat} {made : List MadeArea} {files : FileLi
     abbrev own_parcel : Parcel
     own_parcel = as_read e.parcel
 
-    read-is : own_parcel.message ≡ read_as message
-    read-is = ap read_as e.message_is
-
     abbrev x : Handled
     x = received_as taken (task_of m s) own_parcel code
 
@@ -143,21 +136,21 @@ module _ {m : Memory} {seats : List Seat} {made : List MadeArea} {files : FileLi
 
     -- a message was handled, on a desk that differs in that order alone
     pub poll-some : (mid last : Desk) (outcome : Outcome) → IsReordered taken mid
-        → ((t : Task) (p : Parcel) → IsFor i t mid p (read_as message) → (outcome ≡ (received_as mid t p code).1)
+        → ((t : Task) (p : Parcel) → IsFor i t mid p message → (outcome ≡ (received_as mid t p code).1)
         × IsReordered (received_as mid t p code).0 last)
-        → (y : Desk) × ((poll (desk_of m seats made files kept) name ≡ Ok (y, reply_with code (read_as message) outcome)) × IsReordered y last)
+        → (y : Desk) × ((poll (desk_of m seats made files kept) name ≡ Ok (y, reply_with code message outcome)) × IsReordered y last)
     unfolding poll_taken
     poll-some mid last outcome r done =
-        let own : IsFor i (task_of m s) mid own_parcel (read_as message) = record { at = there mid r; message_is = read-is } in
+        let own : IsFor i (task_of m s) mid own_parcel message = record { at = there mid r; message_is = e.message_is } in
         let q = done (task_of m s) own_parcel own in
         let h = received-too taken mid (task_of m s) own_parcel code r last outcome q.0 q.1 in
         let answer : EventCode → Answer =
         λ k. ((received_as taken (task_of m s) own_parcel k).0, reply_with k own_parcel.message (received_as taken (task_of m s) own_parcel k).1) in
         let by_code : answer e.parcel.code ≡ answer code = ap answer e.code_is in
-        let by_message : answer code ≡ (x.0, reply_with code (read_as message) x.1) =
-        ap (λ y. let a : Answer = (x.0, reply_with code y x.1) in a) read-is in
-        let by_outcome : (let a : Answer = (x.0, reply_with code (read_as message) x.1) in a) ≡ (x.0, reply_with code (read_as message) outcome) =
-        ap (λ o. let a : Answer = (x.0, reply_with code (read_as message) o) in a) (sym h.0) in
+        let by_message : answer code ≡ (x.0, reply_with code message x.1) =
+        ap (λ y. let a : Answer = (x.0, reply_with code y x.1) in a) e.message_is in
+        let by_outcome : (let a : Answer = (x.0, reply_with code message x.1) in a) ≡ (x.0, reply_with code message outcome) =
+        ap (λ o. let a : Answer = (x.0, reply_with code message o) in a) (sym h.0) in
         let whole = by_code ∙ by_message ∙ by_outcome in (
           x.0,
           (

@@ -8,7 +8,7 @@ use Rattle.rh_defs.specs.Post.{put_down}
 use Rattle.rh_defs.proofs.Desks.{answered-keeps, with_delivered-keeps}
 use Rattle.rh_defs.proofs.PostKeeps.{post_poll-kept, put_down-sent, same-sent}
 use Rattle.rh_wimp.specs.QueueCalls.{LeavesChains}
-use Rattle.rh_wimp.specs.Chains.{event_of}
+use Rattle.rh_wimp.specs.Chains.{event_as}
 use Rattle.rh_tasks.specs.View.{kept_file}
 use Rattle.rh_tasks.proofs.Posts.{is-post, has-entry}
 use Rattle.rh_tasks.proofs.Deaths.{scrap-kept, kept-fits}
@@ -38,10 +38,10 @@ module _ {m : Memory} {seats : List Seat} {made : List MadeArea} {files : FileLi
     unfolding task_of
     same-handle t there = ap (λ (x : Task). x.handle) (mapped-is (task_of m) seats i s t at there)
 
-    pub event-is : (event : Option Event) → Answers m the_module kept.queue (λ post. option_map event_of (post_poll s.handle post).1) event
-        → (t : Task) → IsAt i t d → event ≡ option_map event_of (post_poll t.handle d.post).1
+    pub event-is : (event : Option Event) → Answers m the_module kept.queue (λ post. option_map (event_as true) (post_poll s.handle post).1) event
+        → (t : Task) → IsAt i t d → event ≡ option_map (event_as true) (post_poll t.handle d.post).1
     event-is event a t there =
-        a d.post (is-post w) ∙ ap (λ h. option_map event_of (post_poll h d.post).1) (same-handle t there)
+        a d.post (is-post w) ∙ ap (λ h. option_map (event_as true) (post_poll h d.post).1) (same-handle t there)
 
     module _ {n : Memory} {k : Chains} {next : Post → Post} (l : LeavesChains m n the_module kept.queue k next) where
       abbrev pub post_after : Post

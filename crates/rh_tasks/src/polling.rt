@@ -9,11 +9,10 @@ ghost use Rattle.rh_defs.specs.Order.{IsReordered};
 ghost use Rattle.rh_defs.specs.Post.{post_poll};
 ghost use Rattle.rh_defs.specs.Range.{in_range};
 ghost use Rattle.rh_defs.specs.Commands.{poll as poll_on};
-ghost use Rattle.rh_defs.specs.AnyMessage.{read_body as read_body_on};
 ghost use Rattle.rh_defs.specs.RawTasks.{is_raw_at as is_raw_at_on};
 ghost use Rattle.rh_defs.specs.Receiver as receiver;
 ghost use Rattle.rh_defs.specs.Transfer.{delivered, bounced_to, handled};
-ghost use Rattle.rh_wimp.specs.Chains.{event_of};
+ghost use Rattle.rh_wimp.specs.Chains.{event_as};
 ghost use Rattle.rh_tasks.specs.Inner.CommandAnswers.{GivesAlike};
 ghost use Rattle.rh_tasks.specs.Inner.PollSteps.{IsAt, IsFor, Handles, received_as};
 
@@ -28,19 +27,6 @@ use rh_defs::{
     Body, Claim, Event, EventCode, Handle, Message, Name, Outcome, Refusal, Reply, TakeAction,
 };
 use rh_store::Store;
-use rh_wimp::read_body;
-
-/// The message as a task that the desk plays reads it.
-fn as_read(message: Message) -> Message
-    ensures { result ≡ record message { body = read_body_on message.body } }
-{
-    Message {
-        from: message.from,
-        my_ref: message.my_ref,
-        your_ref: message.your_ref,
-        body: read_body(message.body),
-    }
-}
 
 /// The action, where the task that offers has code of its own or hasn't.
 fn flagged(raw: bool, action: Option<TakeAction>) -> Option<TakeAction>
@@ -62,28 +48,27 @@ impl<S: Store, F: NamedFiles> World<S, F> {
         let Some(event) = self.take_event(i) else {
             return Ok(Reply::NoEvent);
         };
-        let message = as_read(event.message);
-        let outcome = self.receive(i, event.code, &message);
+        let outcome = self.receive(i, event.code, &event.message);
         Ok(Reply::Event {
             code: event.code,
-            action: message.body.action(),
-            my_ref: message.my_ref,
-            your_ref: message.your_ref,
+            action: event.message.body.action(),
+            my_ref: event.message.my_ref,
+            your_ref: event.message.your_ref,
             outcome,
         })
     }
 
-    /// Bounces the message that the task holds, and takes the next one for it. A scrap file whose DataLoad is gone is
-    /// given up.
+    /// Bounces the message that the task holds, and takes the next one for it, as a task that the desk plays reads it.
+    /// A scrap file whose DataLoad is gone is given up.
     fn take_event(&mut self, i: usize) -> Option<Event>
         requires { i < length self.old.desk.tasks }
         ensures event { (t : Task) → IsAt i t self.old.desk → result
-            ≡ option_map event_of (post_poll t.handle self.old.desk.post).1 }
+            ≡ option_map (event_as true) (post_poll t.handle self.old.desk.post).1 }
         ensures desk { (t : Task) → IsAt i t self.old.desk
             → IsReordered (with_delivered (post_poll t.handle self.old.desk.post).0 self.old.desk) self.new.desk }
     {
         let seat = &self.seats[i];
-        let event = self.queue.poll(&mut self.store, MODULE, seat.handle);
+        let event = self.queue.poll_read(&mut self.store, MODULE, seat.handle);
         self.scrap = kept_scrap(&self.store, &self.queue, self.scrap);
         event
     }

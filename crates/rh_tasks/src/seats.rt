@@ -4,6 +4,7 @@ ghost use Rattle.std.specs.Prelude.{◌≡◌, ◌<◌, IfOk, IfErr, Some, None,
 ghost use Rattle.std.specs.List.{AllByRecursion, list_any, position};
 ghost use Rattle.rh_defs.specs.Slot.{anchor_count};
 ghost use Rattle.rh_defs.specs.Memory.{Memory};
+ghost use Rattle.rh_defs.specs.RawTasks.{is_raw};
 ghost use Rattle.rh_defs.specs.Desk.{idle_block, idle_buffer};
 ghost use Rattle.rh_tasks.specs.View.{is_named, HasSlot};
 ghost use Rattle.rh_tasks.specs.Finding.{Owns, OwnsIdle, OwnsWith, looked};
@@ -21,6 +22,13 @@ pub fn is_name_in_use(seats: &Seats, name: &Name) -> bool
     ensures { result ≡ list_any (is_named name.now) seats.now.items }
 {
     seats.iter().any(|seat| seat.name == *name)
+}
+
+/// Whether a task has code of its own.
+pub fn has_raw(seats: &Seats) -> bool
+    ensures { result ≡ list_any (λ (s : Seat). is_raw s.manner) seats.now.items }
+{
+    seats.iter().any(|seat| seat.is_raw())
 }
 
 /// The place of the task with the name. The first task is looked at before the others, with no loop.

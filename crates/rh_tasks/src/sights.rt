@@ -2,12 +2,13 @@
 //! bytes of blocks. Nothing changes, and no memory is taken.
 
 ghost use Rattle.std.specs.Prelude.{◌≡◌, ◌+◌, ◌<◌, ◌≤◌, ◌↔◌, Some, Ok, Err, IfErr, IfOk, IfSome, IsTrue, OnOk, drop};
-ghost use Rattle.std.specs.Prelude.{length, slice_get, take};
+ghost use Rattle.std.specs.Prelude.{find, length, slice_get, take};
 ghost use Rattle.std.specs.Option.{option_map};
 ghost use Rattle.std.specs.Result.{MatchResult};
-ghost use Rattle.rh_defs.specs.Desk.{Task, module_start, most_made, most_tasks, next_ref as next_ref_on, task_at};
+ghost use Rattle.rh_defs.specs.Desk.{Task, has_name, module_start, most_made, most_tasks, next_ref as next_ref_on};
+ghost use Rattle.rh_defs.specs.Desk.{task_at};
 ghost use Rattle.rh_defs.specs.Messages.{Parcel};
-ghost use Rattle.rh_defs.specs.RawTasks.{handed_parts, handed_to, next_taken};
+ghost use Rattle.rh_defs.specs.RawTasks.{handed_parts, handed_to, is_raw_task, next_taken};
 ghost use Rattle.rh_defs.specs.Records.{most_records};
 ghost use Rattle.rh_defs.specs.Text.{taken_of};
 ghost use Rattle.rh_wimp.specs.QueueItems.{message_items, with_message};
@@ -22,7 +23,7 @@ use crate::named_files::NamedFiles;
 use crate::outgoing::with_handle;
 use crate::scrap::ScrapFile;
 use crate::seat::SentLetter;
-use crate::seats::{find, slot_of};
+use crate::seats::{find, has_raw, slot_of};
 use crate::world::World;
 use arrayvec::ArrayVec;
 use rh_defs::sizes::{
@@ -265,6 +266,23 @@ impl<S: Store, F: NamedFiles> World<S, F> {
         let seat = &self.seats[i];
         let code = self.queue.peek(&self.store, MODULE, seat.handle, block);
         Ok(code)
+    }
+
+    /// Whether the task with the name has code of its own. Where it hasn't, a poll of it hands out nothing.
+    pub fn is_raw(&self, name: &Name) -> bool
+        ensures { result ≡ is_raw_task (find (has_name name.now) self.now.desk.tasks) }
+    {
+        // Where no task has, which is soon seen, none is looked for.
+        if !has_raw(&self.seats) {
+            return false;
+        }
+        match find(&self.seats, name) {
+            Ok(i) => {
+                let seat = &self.seats[i];
+                seat.is_raw()
+            }
+            Err(_) => false,
+        }
     }
 
     /// What a command would hand to a task with code of its own now: the sender's handle, and the message's data. None

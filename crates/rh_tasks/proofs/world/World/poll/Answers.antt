@@ -31,6 +31,5 @@ returns g c =
     let f = found-in c.in_ok-i.ensures.ok in
     let e = rw (← c.self.view_is) at c.in-Some.ensures in
     let at = task-there c.self.invariant f.1 in
-    let done = rw c.as_read-message.ensures at c.receive-outcome.ensures in
-    rw (← c.self.view_is, c.action.ensures, c.as_read-message.ensures)
-    (poll-some c.self.invariant f.1 (some-taken _ _ (e.event _ at)) _ _ _ (e.desk _ at) done)
+    rw (← c.self.view_is, c.action.ensures)
+    (poll-some c.self.invariant f.1 (some-taken _ _ (e.event _ at)) _ _ _ (e.desk _ at) c.receive-outcome.ensures)
