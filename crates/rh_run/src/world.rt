@@ -2,7 +2,7 @@
 
 ghost use Rattle.rh_defs.specs.Order.{IsReordered};
 
-use rh_defs::{Command, Data, Handle, Question, Reply};
+use rh_defs::{Command, Data, Handle, Name, Question, Reply};
 use rh_lines::Pen;
 use rh_script::put_answer;
 use rh_session::Desktop;
@@ -21,6 +21,10 @@ impl<'a, S: Store + Drop, F: NamedFiles + Drop> Desktop for ScriptWorld<'a, S, F
 
     fn apply(&mut self, command: &Command) -> Reply {
         self.world.apply(command)
+    }
+
+    fn is_raw(&self, name: &Name) -> bool {
+        self.world.is_raw(name)
     }
 
     fn handed(&self, command: &Command) -> Option<(Handle, Data)> {

@@ -8,7 +8,7 @@ use Rattle.std.proofs.lemmas.List.{take_all}
 use borrow.Author.Tests.{tests}
 use Rattle.rh_defs.specs.declared.command.Command.{Command}
 use Rattle.rh_defs.specs.Line.{Meaning, line_means, longest_line}
-use Rattle.rh_defs.specs.Desk.{Desk}
+use Rattle.rh_defs.specs.Desk.{Desk, Task}
 use Rattle.rh_defs.specs.Script.{ended, has_bad_line, is_bad, line_desk, lines_desk, lines_text, meaning_desk, meaning_text, rest_text, script_text}
 use Rattle.rh_defs.specs.Script.{unended}
 use Rattle.rh_defs.specs.Text.{fault_text, first_line, handed_text, taken_of, with_taken}
@@ -18,7 +18,9 @@ use Rattle.rh_defs.specs.declared.reply.Reply.{Reply}
 use Rattle.rh_defs.specs.Commands.{step}
 use Rattle.rh_defs.specs.Messages.{Parcel}
 use Rattle.rh_defs.specs.Questions.{Nothing}
-use Rattle.rh_defs.specs.RawTasks.{handed_parts}
+use Rattle.rh_defs.specs.Post.{post_poll}
+use Rattle.rh_defs.specs.RawTasks.{handed_parts, is_raw_task, next_taken}
+use Rattle.std.specs.Prelude.{if◌then◌else◌}
 use Rattle.rh_defs.proofs.QuestionLaws.{one-line}
 use Rattle.std.specs.Option.{option_map}
 use Rattle.rh_defs.specs.declared.fault.LineFault.TheVariants.{TooLong}
@@ -101,6 +103,26 @@ pub command_text : (d : Desk) (c : Command) (r : Reply) (handed : Option (ℕ ×
 command_text d c r handed other is taken =
     ap₂ (λ x y. first_line x Nothing ++ handed_text y) is taken ∙ with_handed (first_line (step d c).1 Nothing) (taken_of d c)
     ∙ ap (λ t. with_taken t (taken_of d c)) (sym (one-line (step d c).0 c (step d c).1 other))
+
+-- that of one which hands out nothing
+pub quiet_text : (d : Desk) (c : Command) (r : Reply) → ((q : Question) → c ≡ command.Ask q → ⊥) → r ≡ (step d c).1 → taken_of d c ≡ None
+    → first_line r Nothing ≡ meaning_text d (Ok (Some c))
+quiet_text d c r other is quiet =
+    sym (append-nil (first_line r Nothing)) ∙ command_text d c r None other is (sym (ap (option_map handed_parts) quiet))
+
+-- a poll is no question
+pub poll_asks : {c : Command} {name : List ℕ} → c ≡ command.Poll name → (q : Question) → c ≡ command.Ask q → ⊥
+poll_asks is q e = let bad : command.Poll _ ≡ command.Ask q = sym is ∙ e in cc
+
+-- a poll of a task that the desk plays hands out nothing
+pub quiet_poll : (d : Desk) (o : Option Task) → false ≡ is_raw_task o → next_taken d o ≡ None
+quiet_poll d None e = refl
+quiet_poll d (Some t) e = ap (λ b. if b then (post_poll t.handle d.post).1 else None) (sym e)
+
+-- nor does any other command
+pub no_poll : (d : Desk) (c : Command) → ((name : List ℕ) → c ≡ command.Poll name → ⊥) → taken_of d c ≡ None
+no_poll d (command.Poll name) other = absurd (other name refl)
+no_poll d c other = refl
 
 -- ---- one line
 

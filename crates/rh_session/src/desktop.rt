@@ -1,16 +1,16 @@
 //! What a script is run over.
 
-ghost use Rattle.std.specs.Prelude.{◌≡◌, IsTrue};
+ghost use Rattle.std.specs.Prelude.{◌≡◌, IsTrue, find};
 ghost use Rattle.std.specs.Option.{option_map};
-ghost use Rattle.rh_defs.specs.Desk.{Desk};
+ghost use Rattle.rh_defs.specs.Desk.{Desk, has_name};
 ghost use Rattle.rh_defs.specs.Questions.{asked};
 ghost use Rattle.rh_defs.specs.Range.{in_range};
 ghost use Rattle.rh_defs.specs.Commands.{step};
-ghost use Rattle.rh_defs.specs.RawTasks.{handed_parts};
+ghost use Rattle.rh_defs.specs.RawTasks.{handed_parts, is_raw_task};
 ghost use Rattle.rh_defs.specs.Text.{answer_text, taken_of};
 ghost use Rattle.rh_session.specs.Taken.{Gives};
 
-use rh_defs::{Command, Data, Handle, Question, Reply};
+use rh_defs::{Command, Data, Handle, Name, Question, Reply};
 use rh_lines::Pen;
 
 /// What applies commands and answers questions.
@@ -23,6 +23,10 @@ pub trait Desktop: Drop {
         requires in_range { IsTrue (in_range command.now) }
         ensures reply { (d : Desk) → spells self.old d → result ≡ (step d command.now).1 }
         ensures desk { (d : Desk) → spells self.old d → spells self.new (step d command.now).0 };
+
+    /// Whether the task with the name has code of its own. Where it hasn't, a poll of it hands out nothing.
+    fn is_raw(&self, name: &Name) -> bool
+        ensures { (d : Desk) → spells self.now d → result ≡ is_raw_task (find (has_name name.now) d.tasks) };
 
     /// What a command would hand to a task with code of its own now: the sender's handle, and the message's data. None
     /// where it would hand out nothing.

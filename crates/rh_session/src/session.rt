@@ -1,9 +1,12 @@
 //! A script in the middle of its run.
 
-ghost use Rattle.std.specs.Prelude.{◌≡◌, ◌<◌, ◌++◌, Ok, Some, IsTrue, false, length};
+ghost use Rattle.std.specs.Prelude.{◌≡◌, ◌≢◌, ◌<◌, ◌++◌, Ok, Some, None, IsTrue, false, length};
+ghost use Rattle.rh_defs.specs.declared.command.Command.TheVariants.{Ask};
+ghost use Rattle.rh_defs.specs.declared.question.Question.{Question as AnyQuestion};
+ghost use Rattle.rh_defs.specs.Desk.{Desk};
 ghost use Rattle.rh_defs.specs.Range.{in_range};
 ghost use Rattle.rh_defs.specs.Script.{rest_text};
-ghost use Rattle.rh_defs.specs.Text.{fault_text, handed_text};
+ghost use Rattle.rh_defs.specs.Text.{fault_text, handed_text, taken_of};
 ghost use Rattle.rh_session.specs.Taken.{Gives};
 ghost use Rattle.rh_session.specs.Outcome.{status_of};
 
@@ -45,13 +48,43 @@ impl<D: Desktop> Session<D> {
     {
         match &self.command {
             Command::Ask(question) => self.desktop.put_answer(question, pen),
-            _ => {
-                let handed = self.desktop.handed(&self.command);
-                let reply = self.desktop.apply(&self.command);
-                put_first_line(&reply, pen);
-                put_handed(&handed, pen);
+            Command::Poll { name } => {
+                if self.desktop.is_raw(name) {
+                    self.hand_out(pen);
+                } else {
+                    self.reply(pen);
+                }
             }
+            _ => self.reply(pen),
         }
+    }
+
+    /// Does a command that hands out nothing, and answers it.
+    #[inline(always)]
+    fn reply<P: Pen>(&mut self, pen: &mut P)
+        requires ranged { IsTrue (in_range self.old.command) }
+        requires command { (question : AnyQuestion) → self.old.command ≢ Ask question }
+        requires quiet { (d : Desk) → D.spells self.old.desktop d → taken_of d self.old.command ≡ None }
+        ensures { Gives (AnsweredMeaning D.spells self.old (Ok (Some self.old.command)) self.new) (P.offered pen.old)
+            (P.offered pen.new) }
+    {
+        let reply = self.desktop.apply(&self.command);
+        put_first_line(&reply, pen);
+    }
+
+    /// Does a command, and answers it with what it hands to a task with code of its own. Few lines come here, and their
+    /// place for a message's data is none of the others'.
+    #[inline(never)]
+    fn hand_out<P: Pen>(&mut self, pen: &mut P)
+        requires ranged { IsTrue (in_range self.old.command) }
+        requires command { (question : AnyQuestion) → self.old.command ≢ Ask question }
+        ensures { Gives (AnsweredMeaning D.spells self.old (Ok (Some self.old.command)) self.new) (P.offered pen.old)
+            (P.offered pen.new) }
+    {
+        let handed = self.desktop.handed(&self.command);
+        let reply = self.desktop.apply(&self.command);
+        put_first_line(&reply, pen);
+        put_handed(&handed, pen);
     }
 
     /// How the run went so far.
