@@ -13,7 +13,7 @@
 
 enum { ROOM = 1 << 20, STACK = 1 << 20, FILL = 0xa5, KIB = 1024, GUARD = 64 * KIB };
 enum { FEW = KIB, TRANSFER = 2 * KIB, QUESTION = 4 * KIB, COMMAND = 8 * KIB };
-enum { OPENING = 16 * KIB, LINE = 10 * KIB };
+enum { OPENING = 16 * KIB };
 enum { SMALL_STACK = 24 * KIB, WHOLE_STACK = 64 * KIB };
 
 static uint8_t memory[ROOM], bytes[8192];
@@ -223,9 +223,16 @@ static void desk_programs(void)
 static void desk_line(void) { vf_desk_line(&desk, VF_TEXT("areas")); }
 static void desk_poll_lines(void)
 {
-    vf_desk_line(&desk, VF_TEXT("task raw 1 raw"));
+    static char to_itself[] = "send raw 18 0 0 100 000000000000000000000000000000000000000001020304";
+    vf_desk_task(&desk, VF_TEXT("raw"), 1, VF_TASK_RAW, &told);
+    EXPECT(told < 10);
+    to_itself[12] = (char)('0' + told);
     vf_desk_line(&desk, VF_TEXT("send raw 18 2 0 1 0000000000000000000000000000000006000000ff0f0000646f6300"));
     vf_desk_line(&desk, VF_TEXT("poll b"));
+    vf_desk_line(&desk, VF_TEXT(to_itself));
+    EXPECT(vf_desk_line(&desk, VF_TEXT("poll raw")) == VF_OK);
+    vf_desk_reply(&desk, bytes, sizeof bytes, &number);
+    EXPECT(!memcmp(bytes, "ok 18 100 ", 10));
     vf_desk_line(&desk, VF_TEXT("kill raw"));
 }
 static void desk_next(void) { vf_desk_next(&desk, B, &message, &told); }
@@ -261,7 +268,7 @@ static const struct { const char *name; void (*call)(void); size_t most; } CALLS
     {"desk flex", desk_flex, COMMAND},       {"desk heaps", desk_heaps, COMMAND},
     {"desk areas", desk_areas, COMMAND},     {"desk transfer", desk_transfer, COMMAND},
     {"desk questions", desk_questions, COMMAND}, {"desk bytes", desk_bytes, COMMAND},
-    {"desk programs", desk_programs, COMMAND}, {"desk lines of polls", desk_poll_lines, LINE},
+    {"desk programs", desk_programs, COMMAND}, {"desk lines of polls", desk_poll_lines, COMMAND},
     {"desk line", desk_line, COMMAND},       {"desk next", desk_next, QUESTION},
     {"desk reply", desk_reply, QUESTION},    {"desk reply to heap", desk_heap_reply, COMMAND},
     {"desk kill", desk_kill, COMMAND},       {"desk close", desk_close, QUESTION},

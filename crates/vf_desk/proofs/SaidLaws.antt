@@ -1,13 +1,14 @@
 -- Texts of what lines are answered, over desks that a world may be seen as.
 use Rattle.std.proofs.Common.{◌≡◌, ℕ, List, ◌++◌, append-nil, refl, sym, ap, subst, ◌∙◌}
 use Rattle.std.specs.Option.{option_map}
-use Rattle.std.specs.Prelude.{true, Option, Some, None, Ok, Err}
+use Rattle.std.specs.Prelude.{true, false, if◌then◌else◌, Option, Some, None, Ok, Err}
 use Rattle.rh_defs.specs.declared.command.Command.{Command}
 use Rattle.rh_defs.specs.declared.command.Command.TheVariants as command
 use Rattle.rh_defs.specs.declared.fault.LineFault.{LineFault}
 use Rattle.rh_defs.specs.declared.question.Question.{Question}
 use Rattle.rh_defs.specs.declared.reply.Reply.{Reply}
-use Rattle.rh_defs.specs.Desk.{Desk}
+use Rattle.rh_defs.specs.Desk.{Desk, Task}
+use Rattle.rh_defs.specs.Post.{post_poll}
 use Rattle.rh_defs.specs.Line.{Meaning, line_means}
 use Rattle.rh_defs.specs.Order.{IsReordered}
 use Rattle.rh_defs.specs.Range.{can_be_asked}
@@ -15,7 +16,7 @@ use Rattle.rh_defs.specs.Script.{line_desk, line_text, meaning_desk, meaning_tex
 use Rattle.rh_defs.specs.Commands.{step}
 use Rattle.rh_defs.specs.Messages.{Parcel}
 use Rattle.rh_defs.specs.Questions.{Nothing}
-use Rattle.rh_defs.specs.RawTasks.{handed_parts}
+use Rattle.rh_defs.specs.RawTasks.{handed_parts, is_raw_task, next_taken}
 use Rattle.rh_defs.specs.Text.{first_line, handed_text, taken_of, with_taken}
 use Rattle.rh_defs.proofs.HandedLaws.{taken-alike}
 use Rattle.rh_defs.proofs.QuestionLaws.{asked-stays, one-line, question-text}
@@ -59,6 +60,26 @@ answers-command old new c r handed kept other steps taken said_is = record {
       ∙ with-handed (first_line (step d c).1 Nothing) (taken_of d c)
       ∙ ap (λ t. with_taken t (taken_of d c)) (sym (one-line (step d c).0 c (step d c).1 other));
 }
+
+-- one that hands out nothing, in one line
+pub answers-quiet : (old new : Desk) (c : Command) (r : Reply) → ((q : Question) → c ≡ command.Ask q → ⊥)
+    → StepsTo c old new r → taken_of old c ≡ None → Answers (Ok (Some c)) old new (said.Reply r)
+answers-quiet old new c r other steps quiet =
+    answers-command old new c r None (said.Reply r) other steps (sym (ap (option_map handed_parts) quiet)) (λ d. sym (append-nil (first_line r Nothing)))
+
+-- a poll is no question
+pub poll-asks : {c : Command} {name : List ℕ} → c ≡ command.Poll name → (q : Question) → c ≡ command.Ask q → ⊥
+poll-asks is q e = let bad : command.Poll _ ≡ command.Ask q = sym is ∙ e in cc
+
+-- a poll of a task that the desk plays hands out nothing
+pub quiet-poll : (d : Desk) (o : Option Task) → false ≡ is_raw_task o → next_taken d o ≡ None
+quiet-poll d None e = refl
+quiet-poll d (Some t) e = ap (λ b. if b then (post_poll t.handle d.post).1 else None) (sym e)
+
+-- nor does any other command
+pub no-poll : (d : Desk) (c : Command) → ((name : List ℕ) → c ≡ command.Poll name → ⊥) → taken_of d c ≡ None
+no-poll d (command.Poll name) other = absurd (other name refl)
+no-poll d c other = refl
 
 -- the same of what is equal
 pub answers-is : {r m : Meaning (Option Command)} {old new new2 : Desk} {kept kept2 : Said} → r ≡ m → new ≡ new2 → kept ≡ kept2

@@ -1,18 +1,22 @@
 //! A desk that takes lines.
-ghost use Rattle.std.specs.Prelude.{◌≡◌, ◌-◌, ◌^◌, ◌++◌, length, min, true, Some, Ok};
+ghost use Rattle.std.specs.Prelude.{◌≡◌, ◌≢◌, ◌-◌, ◌^◌, ◌++◌, length, min, true, IsTrue, Some, None, Ok};
+ghost use Rattle.rh_defs.specs.declared.command.Command.TheVariants.{Ask};
+ghost use Rattle.rh_defs.specs.declared.question.Question.{Question as AnyQuestion};
 ghost use Rattle.rh_defs.specs.Desk.{Desk};
+ghost use Rattle.rh_defs.specs.Line.{line_means};
 ghost use Rattle.rh_defs.specs.Order.{IsReordered};
 ghost use Rattle.rh_defs.specs.Range.{in_range};
 ghost use Rattle.rh_defs.specs.Script.{line_desk, line_text, meaning_desk, meaning_text};
 ghost use Rattle.rh_defs.specs.Questions.{Nothing};
-ghost use Rattle.rh_defs.specs.Text.{first_line, handed_text};
+ghost use Rattle.rh_defs.specs.Text.{first_line, handed_text, taken_of};
+ghost use Rattle.rh_lines.specs.Placed.{OnFound, if_placed};
 ghost use Rattle.rh_lines.specs.WholeText.{filled};
 ghost use Rattle.vf_desk.specs.Said.{said_text};
 ghost use Rattle.vf_desk.specs.Console.{Prints};
 
 use crate::desk_files::DeskFiles;
 use crate::said::Said;
-use rh_defs::{Command, Data, Handle, Question, Reply};
+use rh_defs::{Command, Data, Handle, LineFault, Question, Reply};
 use rh_heap_index::PageStore;
 use rh_lines::{WholeText, read_line};
 use rh_tasks::World;
@@ -37,7 +41,7 @@ impl Console {
         ensures said { (d : Desk) → IsReordered d self.old.world.desk →
             said_text (line_desk d line.now) self.new.said ≡ line_text d line.now }
     {
-        match read_line(line, &mut self.command) {
+        match read_command(line, &mut self.command) {
             Ok(false) => self.said = Said::Nothing,
             Ok(true) => self.carry_out(),
             Err(fault) => self.said = Said::Fault(fault),
@@ -57,12 +61,47 @@ impl Console {
             Command::Ask(question) => {
                 self.said = Said::Told(mem::replace(question, Question::Areas));
             }
-            _ => {
-                let handed = self.world.handed(&self.command);
-                let reply = self.world.apply(&self.command);
-                self.said = said_of(reply, handed);
+            Command::Poll { name } => {
+                if self.world.is_raw(name) {
+                    self.hand_out();
+                } else {
+                    self.reply();
+                }
             }
+            _ => self.reply(),
         }
+    }
+
+    /// Does a command that hands out nothing, and keeps its reply.
+    #[inline(always)]
+    fn reply(&mut self)
+        requires ranged { in_range self.old.command ≡ true }
+        requires command { (question : AnyQuestion) → self.old.command ≢ Ask question }
+        requires quiet { taken_of self.old.world.desk self.old.command ≡ None }
+        ensures desk { (d : Desk) → IsReordered d self.old.world.desk →
+            IsReordered (meaning_desk d (Ok (Some self.old.command))) self.new.world.desk }
+        ensures text { (d : Desk) → IsReordered d self.old.world.desk →
+            said_text (meaning_desk d (Ok (Some self.old.command))) self.new.said
+            ≡ meaning_text d (Ok (Some self.old.command)) }
+    {
+        let reply = self.world.apply(&self.command);
+        self.said = Said::Reply(reply);
+    }
+
+    /// Does a command, and keeps its reply and what it hands to a task with code of its own.
+    #[inline(never)]
+    fn hand_out(&mut self)
+        requires ranged { in_range self.old.command ≡ true }
+        requires command { (question : AnyQuestion) → self.old.command ≢ Ask question }
+        ensures desk { (d : Desk) → IsReordered d self.old.world.desk →
+            IsReordered (meaning_desk d (Ok (Some self.old.command))) self.new.world.desk }
+        ensures text { (d : Desk) → IsReordered d self.old.world.desk →
+            said_text (meaning_desk d (Ok (Some self.old.command))) self.new.said
+            ≡ meaning_text d (Ok (Some self.old.command)) }
+    {
+        let handed = self.world.handed(&self.command);
+        let reply = self.world.apply(&self.command);
+        self.said = said_of(reply, handed);
     }
 
     /// Puts as much as has room of the text of what the last line was answered into lent bytes, over the desk as it is
@@ -105,6 +144,15 @@ impl Console {
             None => self.print_by(held, to),
         }
     }
+}
+
+/// Reads a line into a command's place. What this needs of the stack is free again when the command is done.
+#[inline(never)]
+fn read_command(line: &[u8], command: &mut Command) -> Result<bool, LineFault>
+    ensures means { if_placed result command.new ≡ line_means line.now }
+    ensures in_range { OnFound result (IsTrue (in_range command.new)) }
+{
+    read_line(line, command)
 }
 
 /// What is said of a reply, and of a message that was handed out with it.

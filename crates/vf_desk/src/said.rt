@@ -1,7 +1,9 @@
 //! What a line is answered, and its text.
 ghost use Rattle.std.specs.Prelude.{◌≡◌, ◌++◌, IfSome};
+ghost use Rattle.rh_defs.specs.declared.fault.LineFault.TheVariants.{Word};
 ghost use Rattle.rh_defs.specs.Desk.{Desk};
 ghost use Rattle.rh_defs.specs.Order.{IsReordered};
+ghost use Rattle.rh_defs.specs.Text.{fault_text};
 ghost use Rattle.vf_desk.specs.Said.{said_text};
 
 use rh_defs::{Data, Handle, LineFault, Question, Reply};
@@ -30,13 +32,14 @@ pub enum Said {
 }
 
 impl Said {
-    /// The text of it, where it is the same whatever the desk and the numbers are.
+    /// The text of it, where it is one of a few that are the same whatever the desk is.
     #[tactic(auto, unfolding(rh_defs::specs::Text::first_line))]
     pub fn fixed_text(&self) -> Option<&'static [u8]>
         ensures { IfSome result (λ text. (d : Desk) → text.now ≡ said_text d self.now) }
     {
         match self {
             Said::Nothing => Some(b""),
+            Said::Fault(fault) => fixed_fault(fault),
             Said::Reply(Reply::Done) => Some(b"ok\n"),
             Said::Reply(Reply::Refused(refusal)) => Some(refused_line(*refusal)),
             Said::Reply(Reply::NoEvent) => Some(b"ok 0\n"),
@@ -61,5 +64,34 @@ impl Said {
             }
             Said::Told(question) => put_answer(world, question, pen),
         }
+    }
+}
+
+/// The text of what is wrong with a line, where it is one of a few.
+#[tactic(auto, unfolding(rh_defs::specs::Text::fault_text))]
+fn fixed_fault(fault: &LineFault) -> Option<&'static [u8]>
+    ensures { IfSome result (λ text. text.now ≡ fault_text fault.now) }
+{
+    match fault {
+        LineFault::TooLong => Some(b"bad TooLong\n"),
+        LineFault::Unknown => Some(b"bad Unknown\n"),
+        LineFault::Count => Some(b"bad Count\n"),
+        LineFault::Word(n) => fixed_word_fault(*n),
+        _ => None,
+    }
+}
+
+/// The text of a fault in a word, where it is one of the first.
+fn fixed_word_fault(n: u8) -> Option<&'static [u8]>
+    ensures { IfSome result (λ text. text.now ≡ fault_text (Word n)) }
+{
+    match n {
+        2 => Some(b"bad Word 2\n"),
+        3 => Some(b"bad Word 3\n"),
+        4 => Some(b"bad Word 4\n"),
+        5 => Some(b"bad Word 5\n"),
+        6 => Some(b"bad Word 6\n"),
+        7 => Some(b"bad Word 7\n"),
+        _ => None,
     }
 }
