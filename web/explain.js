@@ -15,8 +15,8 @@ const NUMBERS = ["Anchor", "Buffer", "Size", "Offset", "Amount", "AreaNumber", "
 // are free, which transfer uses a block or how long a block is, the program tells and the page doesn't.
 const ABOUT = { name_in: "NAME", recipient_in: "TO", loaded_file: "FILE", anchor_in: "A", area_in: "K",
   address_in: "ADDR" };
-// Commands of which some refusals are about the scrap file.
-const BY_SCRAP_FILE = ["spool", "scrap"];
+// Commands of tasks with code of their own, some of whose refusals have reasons of their own.
+const OF_PROGRAMS = ["send", "write", "transfer", "ack", "spool", "scrap"];
 // So many letters of a short word, or of a longer one, may be other than those of the command that was meant.
 const SHORT_WORD = 4;
 const MOST_OTHER = { short: 1, long: 2 };
@@ -208,7 +208,7 @@ function refusedSays(line, name) {
   const kind = ABOUT[about];
   const at = formOf(line)?.words.indexOf(kind) ?? -1;
   const detail = at < 0 ? "" : SENTENCES.detail + plainWord(kind, given[at]);
-  const own = BY_SCRAP_FILE.includes(given[0]) ? SENTENCES.ofPrograms[name] : undefined;
+  const own = OF_PROGRAMS.includes(given[0]) ? SENTENCES.ofPrograms[name] : undefined;
   if (own) return `${sentence(own.why, own.helps)} Nothing was changed.`;
   const reason = name === "Busy" && given[0] === "save" ? BUSY_SAVE : why + detail;
   return `${sentence(reason, helps)} Nothing was changed.`;

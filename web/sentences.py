@@ -11,6 +11,8 @@ import page
 
 # The part of the page's script that is made here.
 PART = "sentences.js"
+# Refusals of which commands of tasks with code of their own are told reasons of their own.
+OWN_REASONS = ("Busy", "NoFile", "BadRange")
 HEAD = "// What explain and help COMMAND say, as their definitions have it. sentences.py makes this part.\n"
 # A rule of a definition: its left side, and its right side with the lines behind it.
 RULE = re.compile(r"^(\w+(?: [^\s=]+)*) =((?: .*)?(?:\n +.*)*)$", re.MULTILINE)
@@ -119,8 +121,8 @@ def table(top):
     reasons = {it for command in found.values() for it in command["refusals"]}
     return {"commands": found, "words": {it: rules.text_of(f"expected {it}") for it in sorted(words)},
             "refusals": {it: refusal(rules, it) for it in rules.in_order("why", reasons)},
-            "ofPrograms": {it: {"why": rules.text_of(f"program_reason facts c {it}"),
-                                "helps": rules.text_of(f"program_help {it}").strip()} for it in ("Busy", "NoFile")},
+            "ofPrograms": {it: {"why": rules.text_of(f"program_why {it}"),
+                                "helps": rules.text_of(f"program_help {it}").strip()} for it in OWN_REASONS},
             "allBusy": rules.text_of("busy_says None"), "detail": rules.text_of("detail_name (Some name)"),
             "faults": faults(rules)}
 

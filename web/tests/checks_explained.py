@@ -117,7 +117,7 @@ def help_by_program(command):
 
 
 def check_help_as_program(bench):
-    """Help has of each form and each refusal what the program's help says, and what is the page's own."""
+    """Help has of each form and each refusal what the program's help first says, and what is the page's own."""
     reasons = {}
     with bench.kept_page() as page:
         entries = {term: (says, lines) for term, says, lines in page.value(ENTRIES)}
@@ -127,7 +127,7 @@ def check_help_as_program(bench):
         same([it for it in lines if it.startswith("Refused")], [f"Refused: {', '.join(refused)}"] if refused else [],
              f"why {form} may be refused")
         holds(says == does or head != form, f"help says that {form} {says}")
-        reasons |= refused
+        reasons = refused | reasons
     same(sorted(entries), sorted(reasons), "the refusals in help")
     for name, why in reasons.items():
         wanted = sentence(BUSY_HELP if name == "Busy" else why, HELPS_HERE.get(name, ""))

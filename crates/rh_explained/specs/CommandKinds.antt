@@ -1,5 +1,5 @@
 -- The kinds of commands: the words that name each, its forms, what it does, and the kinds of its further words.
-use Rattle.std.specs.Prelude.{ℕ, ◌+◌, ◌-◌, if◌then◌else◌, List, [], ◌∷◌, codes, Option, Some, None, slice_get}
+use Rattle.std.specs.Prelude.{ℕ, ◌+◌, ◌-◌, Bool, true, false, if◌then◌else◌, List, [], ◌∷◌, codes, Option, Some, None, slice_get}
 use Rattle.std.specs.Str.{bytes_eq}
 use Rattle.rh_explained.specs.declared.command_kind.CommandKind.{CommandKind}
 use Rattle.rh_explained.specs.declared.command_kind.CommandKind.TheVariants.{Task, Kill, Save, Poll, Cancel, Repeat, Status, Alloc, Load, Put, Free, Extend, Mid, Show, Blocks, Claim, Release, Resize, Budge, Heap, Area, Make, Remove, Areas, Rma, RmaClaim, RmaFree, RmaResize, Send, Read, Write, Transfer, Ack, Spool, Scrap}
@@ -13,6 +13,16 @@ rma_kind second =
     else if bytes_eq second (codes "free") then RmaFree
     else if bytes_eq second (codes "resize") then RmaResize
     else Rma
+
+-- whether a kind is about tasks with code of their own alone
+abbrev pub is_of_programs : CommandKind → Bool
+is_of_programs Send = true
+is_of_programs Write = true
+is_of_programs Transfer = true
+is_of_programs Ack = true
+is_of_programs Spool = true
+is_of_programs Scrap = true
+is_of_programs kind = false
 
 -- a kind that is about tasks and their transfers
 abbrev pub task_kind : List ℕ → Option CommandKind

@@ -17,7 +17,7 @@ use Rattle.rh_defs.specs.Line.{Meaning, nth_word, words_of}
 use Rattle.rh_defs.specs.Named.{name_in}
 use Rattle.rh_defs.specs.Text.{address}
 use Rattle.rh_explained.specs.CommandKinds.{forms, kind_at, kind_named}
-use Rattle.rh_explained.specs.Sentences.{help_for, program_help, why}
+use Rattle.rh_explained.specs.Sentences.{help_for, program_help, program_why, why}
 use Rattle.rh_explained.specs.ShownBytes.{shown_front}
 use Rattle.rh_explained.specs.declared.shown.TheConstants.{MOST_OF_LINE, MOST_OF_WORD}
 use Rattle.rh_explained.specs.Subjects.{address_in, anchor_in, area_in, facts_on, loaded_file, recipient_in}
@@ -181,9 +181,7 @@ busy_says (Some used) = why Busy ++ (codes ": " ++ use_says used)
 
 -- why a command of a task with code of its own was refused
 abbrev pub program_reason : Facts → Command → Refusal → List ℕ
-program_reason facts c Busy = codes "there is a scrap file already"
-program_reason facts c NoFile = codes "the task doesn't hold the message about a scrap file"
-program_reason facts c refusal = why refusal ++ detail facts c refusal
+program_reason facts c refusal = program_why refusal ++ detail facts c refusal
 
 -- why another command was refused
 abbrev pub own_reason : Facts → Command → Refusal → List ℕ

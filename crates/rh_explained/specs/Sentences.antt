@@ -1,7 +1,8 @@
 -- Sentences: what each command does, why a command is refused and what helps, and what no bad line needs a desk for.
-use Rattle.std.specs.Prelude.{ℕ, List, [], ◌∷◌, codes}
+use Rattle.std.specs.Prelude.{ℕ, if◌then◌else◌, List, [], ◌∷◌, codes}
 use Rattle.rh_defs.specs.declared.refusal.Refusal.{Refusal}
 use Rattle.rh_defs.specs.declared.refusal.Refusal.TheVariants.{NameInUse, NoName, TooManyTasks, NoHandles, NoFile, NoBlock, AnchorInUse, NotABlock, NotYours, Busy, NotOpen, NothingSent, BadRange, BadSize, ExcessiveShrink, NoTask, NoRefs, QueueFull, NoBudge, NoRoom, NoArea, TooManyAreas, NoNumbers, TooBig, WrongManner, BadRef}
+use Rattle.rh_explained.specs.CommandKinds.{is_of_programs}
 use Rattle.rh_explained.specs.declared.command_kind.CommandKind.{CommandKind}
 use Rattle.rh_explained.specs.declared.command_kind.CommandKind.TheVariants as kind
 
@@ -72,6 +73,17 @@ why TooBig = codes "the area would have more pages than it may"
 why WrongManner = codes "this isn't for tasks of its manner"
 why BadRef = codes "no message has this ref yet"
 
+-- why a command of a task with code of its own is refused
+abbrev pub program_why : Refusal → List ℕ
+program_why NoFile = codes "the task doesn't hold the message about a scrap file"
+program_why Busy = codes "there is a scrap file already"
+program_why BadRange = codes "no block has these bytes, or their place isn't open"
+program_why refusal = why refusal
+
+-- why a command of a kind is refused
+abbrev pub why_for : CommandKind → Refusal → List ℕ
+why_for kind refusal = if is_of_programs kind then program_why refusal else why refusal
+
 -- what helps then, where that is clear
 abbrev pub help_for : Refusal → List ℕ
 help_for NameInUse = codes "  take another name, or kill that task first\n"
@@ -105,6 +117,7 @@ help_for BadRef = codes "  0 answers nothing\n"
 abbrev pub program_help : Refusal → List ℕ
 program_help NoFile = codes "  poll takes it, where one waits\n"
 program_help Busy = codes "  it goes when its DataLoad is loaded or answered\n"
+program_help BadRange = codes "  heap and blocks list blocks; RAMFetch opens a buffer to its recipient\n"
 program_help refusal = help_for refusal
 
 -- the refusals that commands of a kind can have

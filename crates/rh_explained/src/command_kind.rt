@@ -4,7 +4,7 @@ ghost use Rattle.std.specs.Prelude.{◌≡◌};
 ghost use Rattle.std.specs.Str.{bytes_eq};
 ghost use Rattle.rh_explained.specs.CommandKinds.{area_kind, flex_kind, heap_kind, kind_at as kind_of_word, kind_named};
 ghost use Rattle.rh_explained.specs.CommandKinds.{own_words as words_of_own, program_kind, rma_kind, task_kind};
-ghost use Rattle.rh_explained.specs.CommandKinds.{word_kinds as kinds_of_words};
+ghost use Rattle.rh_explained.specs.CommandKinds.{is_of_programs as is_of_programs_kind, word_kinds as kinds_of_words};
 ghost use Rattle.rh_explained.specs.Explanations.{kind_in};
 
 use crate::word_kind::WordKind;
@@ -120,6 +120,21 @@ impl CommandKind {
             CommandKind::Write => &[TaskName, Address, Bytes],
             CommandKind::Transfer => &[TaskName, Address, Handle, Address, Size],
             CommandKind::Spool => &[TaskName, Anchor, Handle, AnsweredRef],
+        }
+    }
+
+    /// Whether it is about tasks with code of their own alone.
+    pub fn is_of_programs(self) -> bool
+        ensures { result ≡ is_of_programs_kind self }
+    {
+        match self {
+            CommandKind::Send
+            | CommandKind::Write
+            | CommandKind::Transfer
+            | CommandKind::Ack
+            | CommandKind::Spool
+            | CommandKind::Scrap => true,
+            _ => false,
         }
     }
 

@@ -10,7 +10,7 @@ use crate::block_use::BlockUse;
 use crate::facts::Facts;
 use crate::faults::{put_below, put_number};
 use crate::numbers::{put_address, put_decimal};
-use crate::sentences::{help_for, program_help, why};
+use crate::sentences::{help_for, program_help, program_why, why};
 use crate::subjects::{address_in, anchor_in, area_in, loaded_file, recipient_in};
 use rh_defs::{Anchor, Command, Name, Refusal};
 use rh_lines::Pen;
@@ -68,14 +68,8 @@ fn put_own_reason<P: Pen>(facts: &Facts, command: &Command, refusal: Refusal, pe
 fn put_program_reason<P: Pen>(facts: &Facts, command: &Command, refusal: Refusal, pen: &mut P)
     ensures { P.offered pen.new ≡ P.offered pen.old ++ program_reason facts.now command.now refusal }
 {
-    match refusal {
-        Refusal::Busy => pen.put(b"there is a scrap file already"),
-        Refusal::NoFile => pen.put(b"the task doesn't hold the message about a scrap file"),
-        _ => {
-            pen.put(why(refusal));
-            put_detail(facts, command, refusal, pen);
-        }
-    }
+    pen.put(program_why(refusal));
+    put_detail(facts, command, refusal, pen);
 }
 
 /// Says what is busy.

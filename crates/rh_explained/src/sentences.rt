@@ -2,8 +2,10 @@
 
 ghost use Rattle.std.specs.Prelude.{◌≡◌};
 ghost use Rattle.rh_explained.specs.Sentences.{help_for as help_text, program_help as program_help_text};
-ghost use Rattle.rh_explained.specs.Sentences.{why as why_text};
+ghost use Rattle.rh_explained.specs.Sentences.{program_why as program_why_text, why as why_text};
+ghost use Rattle.rh_explained.specs.Sentences.{why_for as why_for_text};
 
+use crate::command_kind::CommandKind;
 use rh_defs::Refusal;
 
 /// Why a command is refused.
@@ -37,6 +39,29 @@ pub fn why(refusal: Refusal) -> &'static [u8]
         Refusal::TooBig => b"the area would have more pages than it may",
         Refusal::WrongManner => b"this isn't for tasks of its manner",
         Refusal::BadRef => b"no message has this ref yet",
+    }
+}
+
+/// Why a command of a task with code of its own is refused.
+pub fn program_why(refusal: Refusal) -> &'static [u8]
+    ensures { result.now ≡ program_why_text refusal }
+{
+    match refusal {
+        Refusal::NoFile => b"the task doesn't hold the message about a scrap file",
+        Refusal::Busy => b"there is a scrap file already",
+        Refusal::BadRange => b"no block has these bytes, or their place isn't open",
+        _ => why(refusal),
+    }
+}
+
+/// Why a command of a kind is refused.
+pub fn why_for(kind: CommandKind, refusal: Refusal) -> &'static [u8]
+    ensures { result.now ≡ why_for_text kind refusal }
+{
+    if kind.is_of_programs() {
+        program_why(refusal)
+    } else {
+        why(refusal)
     }
 }
 
@@ -81,6 +106,8 @@ pub fn program_help(refusal: Refusal) -> &'static [u8]
     match refusal {
         Refusal::NoFile => b"  poll takes it, where one waits\n",
         Refusal::Busy => b"  it goes when its DataLoad is loaded or answered\n",
+        Refusal::BadRange =>
+            b"  heap and blocks list blocks; RAMFetch opens a buffer to its recipient\n",
         _ => help_for(refusal),
     }
 }

@@ -112,15 +112,21 @@ PROGRAMS = [
      "raw tasks send by send or spool, and others by save"),
     (["task a 100", "task r 1 raw", "send r 17 1 1 9"], ": no message has this ref yet", "0 answers nothing"),
     (["task r 1 raw", "send r 17 2 0 9"], ": the task that this is for isn't live", "start the recipient first"),
-    (["task a 100", "task r 1 raw", "alloc r 0 5", "transfer r &9008 1 &8114 5"],
-     ": offset or bytes lie outside the block", "blocks lists the sizes, and extend makes a block longer"),
 ]
 # The same where what is said isn't what other commands are told.
 OWN_REASONS = [
+    (["task a 100", "task r 1 raw", "alloc r 0 5", "transfer r &9008 1 &8114 5"],
+     ": no block has these bytes, or their place isn't open",
+     "heap and blocks list blocks; RAMFetch opens a buffer to its recipient"),
+    (["task r 1 raw", "alloc r 0 5", "write r &9008 000000000000"],
+     ": no block has these bytes, or their place isn't open",
+     "heap and blocks list blocks; RAMFetch opens a buffer to its recipient"),
     (["task a 100", "task r 1 raw", "alloc r 0 5", "spool r 0 1 0", "spool r 0 1 0"], ": there is a scrap file already",
      "it goes when its DataLoad is loaded or answered"),
     (["task r 1 raw", "scrap r 0"], ": the task doesn't hold the message about a scrap file", "poll takes it, where one waits"),
 ]
+# The commands of tasks with code of their own alone.
+OF_PROGRAMS = ["send", "write", "transfer", "ack", "spool", "scrap"]
 # Refusals that no script brings whose length a test could have: 4,294,967,295 tasks or messages stand before them.
 FAR = {"NoHandles", "NoRefs"}
 
@@ -211,9 +217,9 @@ def forms_of_docs():
     return [it.strip() for it in re.split(r" {2,}|\n", "task NAME" + block) if it.strip()]
 
 
-def refusals_of_definitions():
-    """The refusals with what is said of each, as the definitions have them."""
-    return dict(re.findall(r'^why (\w+) = codes "(.*)"$', SENTENCES, re.MULTILINE))
+def refusals_of_definitions(function="why"):
+    """The refusals with what is said of each, as a definition has them."""
+    return dict(re.findall(rf'^{function} (\w+) = codes "(.*)"$', SENTENCES, re.MULTILINE))
 
 
 def commands_of_docs():
@@ -237,8 +243,8 @@ def forms_in(head):
 
 def test_help_of_commands(suite):
     """The help of a command has its forms, what it does and why it may be refused, as documents and definitions have it."""
-    refusals = refusals_of_definitions()
-    suite.is_true("all refusals are said", len(refusals) == 26)
+    refusals, own = refusals_of_definitions(), refusals_of_definitions("program_why")
+    suite.is_true("all refusals are said", len(refusals) == 26 and len(own) == 3)
     for command in commands_of_docs():
         told, status = suite.run(["help", *command])[1:]
         head, deed, others = help_of(suite, command)
@@ -247,7 +253,8 @@ def test_help_of_commands(suite):
         suite.is_true(f"help {command}: forms", forms_in(head) == forms)
         suite.is_true(f"help {command}: deed", re.fullmatch(r"[A-Z].*\.", deed) is not None)
         said = [re.fullmatch(r"  refused (\w+): (.*)", it) for it in others if it.startswith("  refused ")]
-        suite.is_true(f"help {command}: refusals", all(it and refusals.get(it[1]) == it[2] for it in said))
+        wanted = refusals | (own if command[0] in OF_PROGRAMS else {})
+        suite.is_true(f"help {command}: refusals", all(it and wanted.get(it[1]) == it[2] for it in said))
         names = [it[1] for it in said if it]
         suite.is_true(f"help {command}: order", names == [it for it in refusals if it in names])
 
@@ -272,7 +279,8 @@ def test_help_is_made_of_the_pages_table(suite):
     helps = {" ".join(it["own"]): it for it in TABLE["commands"].values()}
     suite.is_true("the page has all commands", sorted(helps) == sorted(map(" ".join, commands_of_docs())))
     for name, command in helps.items():
-        refused = [f"  refused {it}: {TABLE['refusals'][it]['why']}" for it in command["refusals"]]
+        own = TABLE["ofPrograms"] if name in OF_PROGRAMS else {}
+        refused = [f"  refused {it}: {(own.get(it) or TABLE['refusals'][it])['why']}" for it in command["refusals"]]
         words = [f"  {TABLE['words'][it]}" for it in command["words"]]
         wanted = command["expected"], command["does"], [*words, *refused]
         suite.is_true(f"the page on {name}", help_of(suite, name.split()) == wanted)

@@ -4,4 +4,4 @@ use Rattle.rh_explained.proofs.help.put_refusals.Given as goal
 
 -- the lines so far were offered
 abbrev pub invariant-loop-refusal : goal.invariant-loop-refusal
-invariant-loop-refusal g l = g.P.Pen.offered l.pen ≡ g.P.Pen.offered l.initial.pen ++ flat_map refusal_line (take l.refusal-index l.refusals)
+invariant-loop-refusal g l = g.P.Pen.offered l.pen ≡ g.P.Pen.offered l.initial.pen ++ flat_map (refusal_line l.kind) (take l.refusal-index l.refusals)
