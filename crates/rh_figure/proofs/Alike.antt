@@ -14,11 +14,14 @@ use Rattle.rh_defs.specs.Questions.{Nothing, begins}
 use Rattle.rh_defs.specs.Range.{can_be_asked}
 use Rattle.rh_defs.specs.Order.{with_queue, IsReordered}
 use Rattle.rh_defs.specs.Commands.{step}
-use Rattle.rh_defs.specs.Text.{answer_text, first_line, reply_text, fault_text}
+use Rattle.rh_defs.specs.Text.{answer_text, first_line, reply_text, with_taken, fault_text}
+use Rattle.rh_defs.specs.Script.{meaning_text}
+use Rattle.rh_defs.proofs.HandedLaws.{taken-alike}
 use Rattle.rh_defs.proofs.QuestionLaws.{asked-requeued}
 use Rattle.rh_defs.proofs.Steps.{order-ignored}
 use Rattle.rh_figure.specs.Share.{Share}
-use Rattle.rh_figure.specs.Scene.{Before, Marks, no_marks, is_still, before_of, before_task, task_in, handle_of, size_named, seen_item, held_on, message_items}
+use Rattle.rh_figure.specs.Scene.{Before, Marks, no_marks, is_still, before_of, acknowledged_by, held_in, before_task, task_in, handle_of, size_named}
+use Rattle.rh_figure.specs.Scene.{seen_item, held_on, message_items}
 use Rattle.rh_figure.specs.Scene.{marks_of, scene_of}
 use Rattle.rh_figure.specs.Map.{step_lines, command_lines, fault_lines, is_mark, remark_lines}
 use Rattle.rh_figure.specs.FigureLaws.{ShowsNoOrder}
@@ -47,14 +50,23 @@ messages-alike {a} {b} is =
 abbrev with_messages : List MessageItem → Before → Before
 with_messages messages f = record f { messages = messages }
 
-before-requeued : (queue : List Parcel) (n : ℕ) (d : Desk) (t : Option Task)
-    → before_task n (with_queue queue d) t ≡ with_messages (message_items (with_queue queue d)) (before_task n d t)
-before-requeued queue n d None = refl
-before-requeued queue n d (Some t) = refl
+before-requeued : (queue : List Parcel) (ref n : ℕ) (d : Desk) (t : Option Task)
+    → before_task ref n (with_queue queue d) t ≡ with_messages (message_items (with_queue queue d)) (before_task ref n d t)
+before-requeued queue ref n d None = refl
+before-requeued queue ref n d (Some t) = refl
 
-before-kept : (n : ℕ) (d : Desk) (t : Option Task) → with_messages (message_items d) (before_task n d t) ≡ before_task n d t
-before-kept n d None = refl
-before-kept n d (Some t) = refl
+before-kept : (ref n : ℕ) (d : Desk) (t : Option Task)
+    → with_messages (message_items d) (before_task ref n d t) ≡ before_task ref n d t
+before-kept ref n d None = refl
+before-kept ref n d (Some t) = refl
+
+held-requeued : (queue : List Parcel) (d : Desk) (t : Option Task) → held_in (with_queue queue d) t ≡ held_in d t
+held-requeued queue d None = refl
+held-requeued queue d (Some t) = refl
+
+-- what is kept of a desk with a task, where the command names it
+abbrev before_with : Option Command → Desk → Option Task → Before
+before_with c d t = before_task (acknowledged_by c (held_in d t)) (size_named (handle_of t) c d) d t
 
 task_in-requeued : (queue : List Parcel) (d : Desk) (c : Option Command) → task_in c (with_queue queue d) ≡ task_in c d
 task_in-requeued queue d None = refl
@@ -73,11 +85,12 @@ size-requeued queue d h (Some c) = refl
 kept-requeued : (queue : List Parcel) (d : Desk) (c : Option Command)
     → before_of (with_queue queue d) c ≡ with_messages (message_items (with_queue queue d)) (before_of d c)
 kept-requeued queue d c =
-    ap (λ t. before_task (size_named (handle_of t) c (with_queue queue d)) (with_queue queue d) t)
-    (task_in-requeued queue d c)
+    let t = task_in c d in
+    ap (before_with c (with_queue queue d)) (task_in-requeued queue d c)
     ∙ (
-    ap (λ n. before_task n (with_queue queue d) (task_in c d)) (size-requeued queue d (handle_of (task_in c d)) c)
-    ∙ before-requeued queue (size_named (handle_of (task_in c d)) c d) d (task_in c d)
+    ap₂ (λ held n. before_task (acknowledged_by c held) n (with_queue queue d) t)
+    (held-requeued queue d t) (size-requeued queue d (handle_of t) c)
+    ∙ before-requeued queue (acknowledged_by c (held_in d t)) (size_named (handle_of t) c d) d t
     )
 
 pub before-alike : {a b : Desk} → IsReordered a b → (c : Option Command) → before_of b c ≡ before_of a c
@@ -87,7 +100,7 @@ before-alike {a} {b} is c =
     kept-requeued b.post.queued a c
     ∙ (
     ap (λ messages. with_messages messages (before_of a c)) (sym (ap message_items is.rest) ∙ messages-alike is)
-    ∙ before-kept (size_named (handle_of (task_in c a)) c a) a (task_in c a)
+    ∙ before-kept (acknowledged_by c (held_in a (task_in c a))) (size_named (handle_of (task_in c a)) c a) a (task_in c a)
     )
     )
 
@@ -109,29 +122,38 @@ text-requeued queue d (command.Ask q) r =
     (asked-requeued queue d q)
 text-requeued queue d c r = refl
 
-pub text-alike : {a b : Desk} → IsReordered a b → (c : Command) (r : Reply) → reply_text b c r ≡ reply_text a c r
+text-alike : {a b : Desk} → IsReordered a b → (c : Command) (r : Reply) → reply_text b c r ≡ reply_text a c r
 text-alike {a} {b} is c r = ap (λ d. reply_text d c r) is.rest ∙ text-requeued b.post.queued a c r
+
+-- the same is answered to a command
+pub said-alike : {a b : Desk} → IsReordered a b → (c : Command) → meaning_text b (Ok (Some c)) ≡ meaning_text a (Ok (Some c))
+said-alike {a} {b} is c =
+    let steps = order-ignored a b c is in
+    ap₂ with_taken
+    (ap (reply_text (step b c).0 c) steps.reply ∙ text-alike steps.desks c (step a c).1)
+    (taken-alike is c)
 
 -- ---- lines
 
 -- the lines of one reply on the desk after it
 lines-alike : {x y : Desk} → IsReordered x y
-    → (wanted : Bool) (s : Share) (n : ℕ) (line : List ℕ) (c : Command) (f : Before) (r : Reply)
-    → command_lines wanted s n line c f (y, r) ≡ command_lines wanted s n line c f (x, r)
-lines-alike {x} {y} is wanted s n line c f r =
-    ap₂ (step_lines (is_still (Some c) r && not wanted) n line) (text-alike is c r)
+    → (wanted : Bool) (s : Share) (n : ℕ) (line : List ℕ) (c : Command) (said : List ℕ) (f : Before) (r : Reply)
+    → command_lines wanted s n line c said f (y, r) ≡ command_lines wanted s n line c said f (x, r)
+lines-alike {x} {y} is wanted s n line c said f r =
+    ap (step_lines (is_still (Some c) r && not wanted) n line said)
     (ap (scene_of y s f) (marks-alike is f (Some c) r) ∙ scene-alike is s f (marks_of x f (Some c) r))
 
 -- those of a command
 pub command-alike : {a b : Desk} → IsReordered a b → (wanted : Bool) (s : Share) (n : ℕ) (line : List ℕ) (c : Command)
-    → command_lines wanted s n line c (before_of b (Some c)) (step b c)
-    ≡ command_lines wanted s n line c (before_of a (Some c)) (step a c)
+    → command_lines wanted s n line c (meaning_text b (Ok (Some c))) (before_of b (Some c)) (step b c)
+    ≡ command_lines wanted s n line c (meaning_text a (Ok (Some c))) (before_of a (Some c)) (step a c)
 command-alike {a} {b} is wanted s n line c =
     let steps = order-ignored a b c is in
-    ap (λ f. command_lines wanted s n line c f (step b c)) (before-alike is (Some c))
+    let said = meaning_text a (Ok (Some c)) in
+    ap₂ (λ t f. command_lines wanted s n line c t f (step b c)) (said-alike is c) (before-alike is (Some c))
     ∙ (
-    ap (λ r. command_lines wanted s n line c (before_of a (Some c)) ((step b c).0, r)) steps.reply
-    ∙ lines-alike steps.desks wanted s n line c (before_of a (Some c)) (step a c).1
+    ap (λ r. command_lines wanted s n line c said (before_of a (Some c)) ((step b c).0, r)) steps.reply
+    ∙ lines-alike steps.desks wanted s n line c said (before_of a (Some c)) (step a c).1
     )
 
 -- those of a bad line

@@ -1,6 +1,7 @@
 -- What a command has changed, in words. Read Scene first.
 -- x is the scene, o an owner with its number of pages, k an anchor, n a number of a page, b a flex block.
-use Rattle.std.specs.Prelude.{ℕ, ◌-◌, ◌==◌, nat_le, nat_lt, ◌&&◌, not, Bool, false, if◌then◌else◌, List, [], ◌∷◌, ◌++◌, length, drop, map, filter, find, codes, Option, Some, None}
+use Rattle.std.specs.Prelude.{ℕ, ◌-◌, ◌==◌, nat_le, nat_lt, ◌&&◌, ◌||◌, not, Bool, false, if◌then◌else◌, List, [], ◌∷◌, ◌++◌, length, drop, map, filter, find}
+use Rattle.std.specs.Prelude.{codes, Option, Some, None}
 use Rattle.std.specs.List.{list_all, list_any, flat_map, concat}
 use Rattle.std.specs.Fmt.{decimal}
 use Rattle.rh_defs.specs.declared.question.BlockItem.{BlockItem}
@@ -12,13 +13,15 @@ use Rattle.rh_defs.specs.declared.message.Body.{Body}
 use Rattle.rh_defs.specs.declared.message.Body.TheVariants.{RamTransmit}
 use Rattle.rh_defs.specs.declared.message.Letter.{Letter}
 use Rattle.rh_defs.specs.Messages.{Parcel, action_of}
+use Rattle.rh_defs.specs.Post.{Seat, answers_held}
 use Rattle.rh_defs.specs.Desk.{Task, task_at}
 use Rattle.rh_defs.specs.Questions.{block_items}
 use Rattle.rh_defs.specs.Bytes.{space}
 use Rattle.rh_defs.specs.Text.{action_name, address, on_or_off}
 use Rattle.rh_figure.specs.Share.{Holding, count_of, holdings}
-use Rattle.rh_figure.specs.Scene.{Scene, Effect, NoEffect, Begun, Ended, Budging, Longer, Shorter, Made, Removed, GivenUp, Written, waiting, live}
-use Rattle.rh_figure.specs.HeapChanges.{heap_text}
+use Rattle.rh_figure.specs.Scene.{Scene, Effect, NoEffect, Begun, Ended, Budging, Longer, Shorter, Made, Removed, GivenUp, Written, Stored, Copied}
+use Rattle.rh_figure.specs.Scene.{Acknowledged, waiting, live}
+use Rattle.rh_figure.specs.HeapChanges.{buffer_text, grown_text, heap_text}
 use Rattle.rh_figure.specs.Phrases.{Text, area_name, size_text, pages_text, where_so, listed_numbers, task_name, owner_name, is_returned}
 use Rattle.rh_figure.specs.declared.limits.TheConstants.{MOST_FATES, MOST_TOLD}
 
@@ -69,17 +72,39 @@ written_line k offset bytes = concat (
     ∷ quoted_text bytes ∷ []
     )
 
-abbrev pub effect_text : Effect → List Text
-effect_text NoEffect = []
-effect_text (Begun name handle) = begun_line name handle ∷ []
-effect_text (Ended name) = ended_line name ∷ []
-effect_text (Budging name was on) = budging_line name was on ∷ []
-effect_text (Longer k n) = moved_line k n (codes " more") ∷ []
-effect_text (Shorter k n) = moved_line k n (codes " fewer") ∷ []
-effect_text (Made k most) = made_line k most ∷ []
-effect_text (Removed k) = removed_line k ∷ []
-effect_text (GivenUp name) = given_up_line name ∷ []
-effect_text (Written k offset bytes) = written_line k offset bytes ∷ []
+-- an address of a task
+abbrev pub address_of : ℕ → Text → Text
+address_of a name = concat (address a ∷ codes " of " ∷ name ∷ [])
+
+-- bytes that went to an address of a task, as a text where they are one
+abbrev pub stored_line : Text → ℕ → List ℕ → Text
+stored_line name a bytes =
+    concat (size_text (length bytes) ∷ codes " to " ∷ address_of a name ∷ quoted_text bytes ∷ [])
+
+-- so many bytes from an address of a task to one of another
+abbrev pub copied_line : Text → ℕ → ℕ → Text → ℕ → Text
+copied_line name n a who place =
+    concat (size_text n ∷ codes " from " ∷ address_of a name ∷ codes " to " ∷ address_of place who ∷ [])
+
+-- the ref is 0 where there was nothing to acknowledge
+abbrev pub acknowledged_line : Text → ℕ → Text
+acknowledged_line name ref =
+    name ++ (if ref == 0 then codes " holds no message" else codes " acknowledges message " ++ decimal ref)
+
+abbrev pub effect_text : Scene → Effect → List Text
+effect_text x NoEffect = []
+effect_text x (Begun name handle) = begun_line name handle ∷ []
+effect_text x (Ended name) = ended_line name ∷ []
+effect_text x (Budging name was on) = budging_line name was on ∷ []
+effect_text x (Longer k n) = moved_line k n (codes " more") ∷ []
+effect_text x (Shorter k n) = moved_line k n (codes " fewer") ∷ []
+effect_text x (Made k most) = made_line k most ∷ []
+effect_text x (Removed k) = removed_line k ∷ []
+effect_text x (GivenUp name) = given_up_line name ∷ []
+effect_text x (Written k offset bytes) = written_line k offset bytes ∷ []
+effect_text x (Stored name a bytes) = stored_line name a bytes ∷ []
+effect_text x (Copied name n a to place) = copied_line name n a (task_name x.desk to) place ∷ []
+effect_text x (Acknowledged name ref) = acknowledged_line name ref ∷ []
 
 -- ---- pages
 
@@ -222,6 +247,37 @@ abbrev pub taken_text : Scene → Option (ℕ × Action) → List Text
 taken_text x None = []
 taken_text x (Some taken) = takes_line (task_name x.desk x.marks.handle) taken.1 taken.0 ∷ []
 
+-- Whether a message, as it was before the command, goes back next: it waits for its sender, or is held by it.
+abbrev pub goes_back_next : MessageItem → Bool
+goes_back_next m = is_returned m.code || m.held
+
+-- whether a message that a task takes comes back to it, by all messages before
+abbrev pub comes_back : ℕ → List MessageItem → Bool
+comes_back ref messages = list_any (λ (m : MessageItem). m.my_ref == ref && goes_back_next m) messages
+
+-- whether a task holds the message with the ref
+abbrev pub is_held : Scene → ℕ → Bool
+is_held x ref = list_any (λ (s : Seat). answers_held ref s.holds) x.desk.post.seats
+
+abbrev pub back_line : Action → ℕ → Text
+back_line action ref = concat (action_name action ∷ codes " " ∷ decimal ref ∷ codes " has come back: nobody answered it" ∷ [])
+
+abbrev pub holds_line : Text → Action → ℕ → Text
+holds_line who action ref = concat (
+    who ∷ codes " holds " ∷ action_name action ∷ codes " " ∷ decimal ref ∷ codes " until it answers or polls again" ∷ []
+    )
+
+-- whether the message that the command took has come back
+abbrev pub back_text : Scene → Option (ℕ × Action) → List Text
+back_text x None = []
+back_text x (Some taken) = if comes_back taken.0 x.before.messages then back_line taken.1 taken.0 ∷ [] else []
+
+-- whether the task holds the message that it took
+abbrev pub holding_text : Scene → Option (ℕ × Action) → List Text
+holding_text x None = []
+holding_text x (Some taken) =
+    if is_held x taken.0 then holds_line (task_name x.desk x.marks.handle) taken.1 taken.0 ∷ [] else []
+
 -- whether a message is the one that the command took
 abbrev pub is_taken : ℕ → Option (ℕ × Action) → Bool
 is_taken ref None = false
@@ -235,10 +291,17 @@ answers_ref ref (Some sent) = sent.0.your_ref == ref
 abbrev pub is_live : Scene → ℕ → Bool
 is_live x ref = list_any (λ (p : Parcel). p.message.my_ref == ref) (live x)
 
--- whether a message that was there before the command has vanished: it is gone, and nobody took or answered it
+-- whether a message is the one that the command acknowledged
+abbrev pub is_acknowledged : ℕ → Effect → Bool
+is_acknowledged ref (Acknowledged name acknowledged) = acknowledged == ref
+is_acknowledged ref _ = false
+
+-- whether a message that was there before the command has vanished: it is gone, and nobody took, answered or
+-- acknowledged it
 abbrev pub has_vanished : Scene → MessageItem → Bool
 has_vanished x m =
     not (is_live x m.my_ref) && not (is_taken m.my_ref x.marks.taken) && not (answers_ref m.my_ref x.marks.sent)
+    && not (is_acknowledged m.my_ref x.marks.effect)
 
 abbrev pub vanished : Scene → List MessageItem
 vanished x = filter (has_vanished x) x.before.messages
@@ -276,6 +339,11 @@ abbrev pub bytes_sent_text : Scene → Letter → Body → List Text
 bytes_sent_text x l (RamTransmit buffer n) = bytes_line n (task_name x.desk l.to) buffer ∷ []
 bytes_sent_text x l _ = []
 
+-- lines where a poll took a message: a letter that a line sends takes no bytes with it
+abbrev pub where_taken : Option (ℕ × Action) → List Text → List Text
+where_taken None lines = []
+where_taken (Some taken) lines = lines
+
 abbrev pub sends_line : Text → Action → ℕ → Text → Text
 sends_line who action ref to =
     concat (who ∷ codes " sends " ∷ action_name action ∷ codes " " ∷ decimal ref ∷ codes " to " ∷ to ∷ [])
@@ -283,7 +351,7 @@ sends_line who action ref to =
 abbrev pub sent_text : Scene → Option (Letter × ℕ) → List Text
 sent_text x None = []
 sent_text x (Some sent) =
-    bytes_sent_text x sent.0 sent.0.body
+    where_taken x.marks.taken (bytes_sent_text x sent.0 sent.0.body)
     ++ sends_line (task_name x.desk sent.0.from) (action_of sent.0.body) sent.1 (task_name x.desk sent.0.to) ∷ []
 
 -- the messages that go back, the one that the task took, those that vanished, and the one that it sent
@@ -293,9 +361,13 @@ post_changes x = bounced_text x ++ taken_text x x.marks.taken ++ vanished_text x
 -- ---- all of it
 abbrev pub changes : Scene → List Text
 changes x =
-    effect_text x.marks.effect
+    effect_text x x.marks.effect
     ++ page_changes x
+    ++ grown_text x (task_at x.before.handle x.desk)
     ++ heap_text x x.marks.heap_effect
+    ++ buffer_text x x.marks.taken x.marks.sent
     ++ block_changes x (task_at x.before.handle x.desk)
     ++ slide_change (slides x)
+    ++ back_text x x.marks.taken
     ++ post_changes x
+    ++ holding_text x x.marks.taken

@@ -136,11 +136,16 @@ abbrev pub is_recipient : ℕ → Option (Letter × ℕ) → Bool
 is_recipient h None = false
 is_recipient h (Some sent) = sent.0.to == h
 
+-- whether the flex block that was written to is the task's
+abbrev pub is_put_in : ℕ → Option (ℕ × ℕ) → Bool
+is_put_in h None = false
+is_put_in h (Some b) = b.0 == h
+
 -- all slots of few tasks are drawn, and of many those that the command is about
 abbrev pub is_drawn : Scene → Task → Bool
 is_drawn x t =
     nat_le (length x.desk.tasks) MOST_SLOTS || t.handle == x.marks.handle || t.handle == x.marks.heap.0
-    || is_recipient t.handle x.marks.sent
+    || is_put_in t.handle x.marks.put || is_recipient t.handle x.marks.sent
 
 abbrev pub slot_drawing : Scene → Task → Drawing
 slot_drawing x t = record {

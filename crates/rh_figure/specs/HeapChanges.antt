@@ -1,10 +1,16 @@
--- What became of a block of a heap, in words. Read HeapSegments and Scene first.
+-- What became of a heap and its blocks, in words. Read HeapSegments and Scene first.
 -- x is the scene, h the handle of the task whose C heap it is, 0 for the module area's, a an address, n a number of bytes.
-use Rattle.std.specs.Prelude.{ℕ, ◌+◌, ◌==◌, if◌then◌else◌, List, [], ◌∷◌, ◌++◌, codes, Option, Some, None}
+use Rattle.std.specs.Prelude.{ℕ, ◌+◌, ◌==◌, nat_lt, if◌then◌else◌, List, [], ◌∷◌, ◌++◌, codes, Option, Some, None}
 use Rattle.std.specs.List.{concat}
 use Rattle.std.specs.Fmt.{decimal}
 use Rattle.rh_defs.specs.declared.question.SegmentItem.{SegmentItem}
 use Rattle.rh_defs.specs.declared.question.SegmentItem.TheVariants as segment
+use Rattle.rh_defs.specs.declared.message.Action.{Action}
+use Rattle.rh_defs.specs.declared.message.Action.TheVariants.{DataSave}
+use Rattle.rh_defs.specs.declared.message.Body.{Body}
+use Rattle.rh_defs.specs.declared.message.Body.TheVariants.{RamFetch}
+use Rattle.rh_defs.specs.declared.message.Letter.{Letter}
+use Rattle.rh_defs.specs.Desk.{Task}
 use Rattle.rh_defs.specs.Text.{address}
 use Rattle.rh_figure.specs.HeapSegments.{segment_seen, found_size, top_size}
 use Rattle.rh_figure.specs.Scene.{Scene}
@@ -13,6 +19,12 @@ use Rattle.rh_figure.specs.declared.heap_effect.HeapEffect.{HeapEffect}
 use Rattle.rh_figure.specs.declared.heap_effect.HeapEffect.TheVariants.{Nothing, Claimed, Released, Resized}
 
 -- ---- sentences
+
+-- a C heap that had so many bytes, and has another number now
+abbrev pub grown_line : Text → ℕ → ℕ → Text
+grown_line name had has = concat (
+    codes "The C heap of " ∷ name ∷ codes " grows from " ∷ decimal had ∷ codes " to " ∷ size_text has ∷ []
+    )
 
 -- a block by its address
 abbrev pub heap_block : ℕ → ℕ → Text
@@ -30,6 +42,13 @@ room_text n (Some (segment.Used at size)) =
 
 abbrev pub claimed_line : ℕ → ℕ → ℕ → Option SegmentItem → Text
 claimed_line h a n next = concat (heap_block h a ∷ codes " is new: " ∷ size_text n ∷ room_text n next ∷ [])
+
+-- a buffer, by the transfer whose bytes it holds
+abbrev pub buffer_line : ℕ → ℕ → ℕ → Option SegmentItem → Text
+buffer_line a id n next = concat (
+    codes "Buffer " ∷ address a ∷ codes " of transfer " ∷ decimal id ∷ codes " is new: " ∷ size_text n ∷ room_text n next
+    ∷ []
+    )
 
 abbrev pub released_line : ℕ → ℕ → ℕ → Text
 released_line h a n = concat (heap_block h a ∷ codes " of " ∷ size_text n ∷ codes " is released" ∷ [])
@@ -75,6 +94,25 @@ size_now x h a = found_size (segment_now x h a)
 -- the segment behind the block at an address
 abbrev pub next_now : Scene → ℕ → ℕ → Option SegmentItem
 next_now x h a = segment_now x h (a + size_now x h a)
+
+-- whether the C heap of the named task has grown
+abbrev pub grown_text : Scene → Option Task → List Text
+grown_text x None = []
+grown_text x (Some t) =
+    if nat_lt x.before.heap_end t.slot.heap.end then grown_line t.name x.before.heap_end t.slot.heap.end ∷ [] else []
+
+abbrev pub buffer_new : Scene → ℕ → ℕ → ℕ → List Text
+buffer_new x h a id = buffer_line a id (size_now x h a) (next_now x h a) ∷ []
+
+-- a fetch for a message that was taken: the buffer of an offer is new
+abbrev pub buffer_fetched : Scene → ℕ × Action → ℕ → Body → List Text
+buffer_fetched x (id, DataSave) h (RamFetch a n) = buffer_new x h a id
+buffer_fetched x taken h body = []
+
+-- the buffer that a task claimed for the offer that it took
+abbrev pub buffer_text : Scene → Option (ℕ × Action) → Option (Letter × ℕ) → List Text
+buffer_text x (Some taken) (Some sent) = buffer_fetched x taken sent.0.from sent.0.body
+buffer_text x _ _ = []
 
 abbrev pub claimed_text : Scene → ℕ → ℕ → List Text
 claimed_text x h a = claimed_line h a (size_now x h a) (next_now x h a) ∷ []

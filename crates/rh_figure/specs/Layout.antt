@@ -85,18 +85,19 @@ heap_pieces g at h =
 
 -- ---- slots
 
-abbrev pub is_put : ℕ → Option ℕ → Bool
-is_put k None = false
-is_put k (Some j) = j == k
+-- whether the flex block of a task is the one that was written to
+abbrev pub is_put : ℕ → ℕ → Option (ℕ × ℕ) → Bool
+is_put h k None = false
+is_put h k (Some b) = b.0 == h && b.1 == k
 
--- whether a block of so many bytes was written to, or none of that anchor and size was there before
-abbrev pub is_changed_block : Option ℕ → List BlockItem → ℕ → ℕ → Bool
-is_changed_block put before k n =
-    is_put k put || not (list_any (λ (b : BlockItem). b.anchor == k && b.size == n) before)
+-- whether a block of that anchor and size was there
+abbrev pub had_block : ℕ → ℕ → List BlockItem → Bool
+had_block k n before = list_any (λ (b : BlockItem). b.anchor == k && b.size == n) before
 
--- whether the block with an anchor and a size is the named task's, and is changed
+-- whether the block of a task with an anchor and a size was written to, or is the named task's and wasn't there before
 abbrev pub is_fresh_flex : Scene → ℕ → ℕ → ℕ → Bool
-is_fresh_flex x h k n = h == x.marks.handle && is_changed_block x.marks.put x.before.blocks k n
+is_fresh_flex x h k n =
+    is_put h k x.marks.put || (h == x.marks.handle && not (had_block k n x.before.blocks))
 
 -- whether the command made or changed the block of the C heap
 abbrev pub is_fresh_block : Scene → ℕ → ℕ → Bool

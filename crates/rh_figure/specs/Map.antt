@@ -15,8 +15,8 @@ use Rattle.rh_defs.specs.Line.{Meaning, line_means, longest_line, words_of, nth_
 use Rattle.rh_defs.specs.Desk.{Desk}
 use Rattle.rh_defs.specs.Commands.{step}
 use Rattle.rh_defs.specs.Runs.{start}
-use Rattle.rh_defs.specs.Text.{reply_text, fault_text, state_name}
-use Rattle.rh_defs.specs.Script.{ended, unended}
+use Rattle.rh_defs.specs.Text.{fault_text, state_name}
+use Rattle.rh_defs.specs.Script.{ended, unended, meaning_text}
 use Rattle.rh_figure.specs.Share.{Share}
 use Rattle.rh_figure.specs.Scene.{Scene, Before, before_of, marks_of, is_still, scene_of}
 use Rattle.rh_figure.specs.Phrases.{Text, cut, where_so, commas}
@@ -115,10 +115,10 @@ step_lines still n line reply x =
     step_line n line
     ∷ (reply_lines (ended reply) ++ (if still then codes "  (memory stays)" ∷ [] ∷ [] else figure_lines (figure x)))
 
--- a line's command with its reply and the desk after it
-abbrev pub command_lines : Bool → Share → ℕ → Text → Command → Before → Desk × Reply → List Text
-command_lines wanted s n line c b after = step_lines
-    (is_still (Some c) after.1 && not wanted) n line (reply_text after.0 c after.1)
+-- a line's command with all that `run` answers to it, and the desk after it with its reply
+abbrev pub command_lines : Bool → Share → ℕ → Text → Command → Text → Before → Desk × Reply → List Text
+command_lines wanted s n line c said b after = step_lines
+    (is_still (Some c) after.1 && not wanted) n line said
     (scene_of after.0 s b (marks_of after.0 b (Some c) after.1))
 
 -- a bad line
@@ -177,7 +177,8 @@ abbrev pub lines_of_read : Bool → Share → Place → Read → List Text
 lines_of_read marked s p (line, Ok None) = if not marked || p.wanted || is_mark line then remark_lines line else []
 lines_of_read marked s p (line, Ok (Some c)) =
     if not marked || p.wanted
-    then command_lines p.wanted s (p.lines + 1) line c (before_of p.desk (Some c)) (step p.desk c)
+    then command_lines
+    p.wanted s (p.lines + 1) line c (meaning_text p.desk (Ok (Some c))) (before_of p.desk (Some c)) (step p.desk c)
     else []
 lines_of_read marked s p (line, Err fault) =
     if not marked || p.wanted then fault_lines p.wanted s (p.lines + 1) line fault p.desk else []

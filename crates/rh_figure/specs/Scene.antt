@@ -1,12 +1,17 @@
 -- What a picture is drawn from: a desk after a command, and what is kept of the desk before it. Read Share first.
 -- d is a desk, c the command, t a task, h a handle, s a share of the pool, b what is kept, x the whole scene.
-use Rattle.std.specs.Prelude.{ℕ, ℤ, pos, negsuc, ◌==◌, nat_lt, ◌||◌, Bool, true, false, if◌then◌else◌, List, [], ◌∷◌, ◌++◌, map, filter, find, Option, Some, None}
+use Rattle.std.specs.Prelude.{ℕ, ◌+◌, ℤ, pos, negsuc, ◌==◌, nat_le, nat_lt, ◌&&◌, ◌||◌, Bool, true, false, if◌then◌else◌, List, [], ◌∷◌, ◌++◌, map, filter}
+use Rattle.std.specs.Prelude.{find, Option, Some, None}
 use Rattle.std.specs.List.{flat_map}
+use Rattle.std.specs.Option.{option_map}
 use Rattle.rh_defs.specs.declared.command.Command.{Command}
 use Rattle.rh_defs.specs.declared.command.Command.TheVariants as command
 use Rattle.rh_defs.specs.declared.reply.Reply.{Reply}
 use Rattle.rh_defs.specs.declared.reply.Reply.TheVariants as reply
+use Rattle.rh_defs.specs.declared.raw_command.RawCommand.TheVariants as raw
 use Rattle.rh_defs.specs.declared.question.BlockItem.{BlockItem}
+use Rattle.rh_defs.specs.declared.question.SegmentItem.{SegmentItem}
+use Rattle.rh_defs.specs.declared.question.SegmentItem.TheVariants as segment
 use Rattle.rh_defs.specs.declared.message.Action.{Action}
 use Rattle.rh_defs.specs.declared.message.Body.{Body}
 use Rattle.rh_defs.specs.declared.message.Body.TheVariants.{RamFetch, RamTransmit}
@@ -56,12 +61,15 @@ message_items d = map (seen_item false) (waiting_on d) ++ map (seen_item true) (
 
 -- ---- before the command
 
--- The handle, blocks and held ref are those of the task that the command names; all are 0 or none where it names no
--- live one. The size is that of the heap's block that the command names, 0 where it names none. The messages are all.
+-- The handle, blocks, length of the C heap and held ref are those of the task that the command names; all are 0 or none
+-- where it names no live one. The size is that of the heap's block that the command names, the ref acknowledged that of
+-- the message that it acknowledges if it is granted: 0 for none. The messages are all.
 pub record Before : Type 0 where
   pub handle : ℕ
   pub blocks : List BlockItem
+  pub heap_end : ℕ
   pub held : ℕ
+  pub acknowledged : ℕ
   pub size : ℕ
   pub messages : List MessageItem
   pub holdings : List Holding
@@ -82,21 +90,31 @@ abbrev pub ref_of : Option Parcel → ℕ
 ref_of None = 0
 ref_of (Some p) = p.message.my_ref
 
-abbrev pub before_task : ℕ → Desk → Option Task → Before
-before_task n d None = record {
+-- the ref that a task may hold, else 0
+abbrev pub held_in : Desk → Option Task → ℕ
+held_in d None = 0
+held_in d (Some t) = ref_of (held_by t.handle d.post.seats)
+
+-- by the ref acknowledged, and the size
+abbrev pub before_task : ℕ → ℕ → Desk → Option Task → Before
+before_task ref n d None = record {
   handle = 0;
   blocks = [];
+  heap_end = 0;
   held = 0;
+  acknowledged = ref;
   size = n;
   messages = message_items d;
   holdings = holdings d;
   free = free_pages d;
   next_ref = next_ref d;
 }
-before_task n d (Some t) = record {
+before_task ref n d (Some t) = record {
   handle = t.handle;
   blocks = block_items t.slot;
+  heap_end = t.slot.heap.end;
   held = ref_of (held_by t.handle d.post.seats);
+  acknowledged = ref;
   size = n;
   messages = message_items d;
   holdings = holdings d;
@@ -117,15 +135,22 @@ size_named h (Some (command.RmaFree a)) d = found_size (segment_seen 0 a d)
 size_named h (Some (command.RmaResize a delta)) d = found_size (segment_seen 0 a d)
 size_named h _ d = 0
 
+-- the ref of the message that a command acknowledges, by that of the one that its task holds
+abbrev pub acknowledged_by : Option Command → ℕ → ℕ
+acknowledged_by (Some (command.Raw (raw.Ack name))) held = held
+acknowledged_by _ held = 0
+
 -- what is kept of a desk before a command, or before a bad line
 abbrev pub before_of : Desk → Option Command → Before
-before_of d c = before_task (size_named (handle_of (task_in c d)) c d) d (task_in c d)
+before_of d c = before_task
+    (acknowledged_by c (held_in d (task_in c d))) (size_named (handle_of (task_in c d)) c d) d (task_in c d)
 
 -- ---- what the command did
 
 -- What a command did that nothing in the desk behind it tells: a task began with a handle, or ended; budging is on or
 -- off, and was; an area got so many bytes, or lost them; one was made, of at most so many pages, or taken away; a task
--- gave a transfer up; bytes went into a flex block from an offset on.
+-- gave a transfer up; bytes went into a flex block from an offset on, or to an address of a task; so many went from an
+-- address of a task to one of the task with a handle; a task acknowledged the message with a ref.
 pub data Effect : Type 0 where
   NoEffect : Effect
   Begun : List ℕ → ℕ → Effect
@@ -137,15 +162,18 @@ pub data Effect : Type 0 where
   Removed : ℕ → Effect
   GivenUp : List ℕ → Effect
   Written : ℕ → ℕ → List ℕ → Effect
+  Stored : List ℕ → ℕ → List ℕ → Effect
+  Copied : List ℕ → ℕ → ℕ → ℕ → ℕ → Effect
+  Acknowledged : List ℕ → ℕ → Effect
 
--- The task that it names, its effect, what became of a heap's block, the anchor of the block that it wrote to, the task
--- and address of a block of a C heap, the address of a block of the module area, the letter that was sent with its ref,
--- and the ref and action of the message that was taken.
+-- The task that it names, its effect, what became of a heap's block, the task and anchor of the flex block that it wrote
+-- to, the task and address of a block of a C heap, the address of a block of the module area, the letter that was sent
+-- with its ref, and the ref and action of the message that was taken.
 pub record Marks : Type 0 where
   pub handle : ℕ
   pub effect : Effect
   pub heap_effect : HeapEffect
-  pub put : Option ℕ
+  pub put : Option (ℕ × ℕ)
   pub heap : ℕ × ℕ
   pub module_block : ℕ
   pub sent : Option (Letter × ℕ)
@@ -182,29 +210,75 @@ sent_by b (Some t) = if_new t.last_sent
     if_new None = None
     if_new (Some sent) = if sent.1 == b.next_ref then Some sent else None
 
--- the block of a C heap that a letter's bytes go into, else another one
-abbrev pub buffer_of : Option (Letter × ℕ) → ℕ × ℕ → ℕ × ℕ
-buffer_of None other = other
-buffer_of (Some sent) other = in_body sent.0.body
-  where
-    in_body : Body → ℕ × ℕ
-    in_body (RamFetch buffer n) = (sent.0.from, buffer)
-    in_body (RamTransmit buffer n) = if nat_lt 0 n then (sent.0.to, buffer) else other
-    in_body _ = other
+-- a task, and an address in its slot
+abbrev pub SlotPlace : Type 0
+SlotPlace = ℕ × ℕ
 
-abbrev pub heap_mark : ℕ → Command → Reply → ℕ × ℕ
-heap_mark h (command.Claim name n) (reply.Block address) = (h, address)
-heap_mark h (command.Resize name a delta) (reply.Block address) = (h, address)
-heap_mark h _ _ = (0, 0)
+-- a spot where some bytes are
+abbrev pub where_some : ℕ → SlotPlace → Option SlotPlace
+where_some n spot = if nat_lt 0 n then Some spot else None
+
+-- the spot that a letter's bytes go to
+abbrev pub spot_of : Letter → Option SlotPlace
+spot_of l = in_body l.body
+  where
+    in_body : Body → Option SlotPlace
+    in_body (RamFetch buffer n) = Some (l.from, buffer)
+    in_body (RamTransmit buffer n) = where_some n (l.to, buffer)
+    in_body _ = None
+
+abbrev pub spot_sent : Option (Letter × ℕ) → Option SlotPlace
+spot_sent None = None
+spot_sent (Some sent) = spot_of sent.0
+
+-- a spot, where a poll took a message: a letter that a line sends moves no bytes
+abbrev pub spot_taken : Option (ℕ × Action) → Option SlotPlace → Option SlotPlace
+spot_taken None spot = None
+spot_taken (Some taken) spot = spot
+
+-- where a command of a task with code of its own puts bytes, else another spot
+abbrev pub spot_by : ℕ → Command → Option SlotPlace → Option SlotPlace
+spot_by h (command.Raw (raw.Write name a bytes)) other = Some (h, a)
+spot_by h (command.Raw (raw.Transfer name a to place n)) other = where_some n (to, place)
+spot_by h _ other = other
+
+-- the block of a C heap that is at a spot
+abbrev pub used_at : ℕ → Option SegmentItem → ℕ × ℕ
+used_at h (Some (segment.Used address size)) = (h, address)
+used_at h _ = (0, 0)
+
+abbrev pub heap_block_in : Desk → Option SlotPlace → ℕ × ℕ
+heap_block_in d None = (0, 0)
+heap_block_in d (Some spot) = used_at spot.0 (segment_seen spot.0 spot.1 d)
+
+-- whether a flex block has the byte at an address
+abbrev pub covers_address : ℕ → BlockItem → Bool
+covers_address a b = nat_le b.address a && nat_lt a (b.address + b.size)
+
+-- the flex block that is at a spot, by its task and anchor
+abbrev pub flex_of : SlotPlace → Option Task → Option (ℕ × ℕ)
+flex_of spot None = None
+flex_of spot (Some t) = option_map (λ (b : BlockItem). (spot.0, b.anchor)) (find (covers_address spot.1) (block_items t.slot))
+
+abbrev pub flex_block_in : Desk → Option SlotPlace → Option (ℕ × ℕ)
+flex_block_in d None = None
+flex_block_in d (Some spot) = flex_of spot (task_at spot.0 d)
+
+-- the block of a C heap that a command made or changed, else another one
+abbrev pub heap_mark : ℕ → Command → Reply → ℕ × ℕ → ℕ × ℕ
+heap_mark h (command.Claim name n) (reply.Block address) other = (h, address)
+heap_mark h (command.Resize name a delta) (reply.Block address) other = (h, address)
+heap_mark h _ _ other = other
 
 abbrev pub module_mark : Command → Reply → ℕ
 module_mark (command.RmaClaim n) (reply.Block address) = address
 module_mark (command.RmaResize a delta) (reply.Block address) = address
 module_mark _ _ = 0
 
-abbrev pub put_mark : Command → Option ℕ
-put_mark (command.Put name k offset bytes) = Some k
-put_mark _ = None
+-- the flex block that a command put bytes into by its anchor, else another one
+abbrev pub put_mark : ℕ → Command → Option (ℕ × ℕ) → Option (ℕ × ℕ)
+put_mark h (command.Put name k offset bytes) other = Some (h, k)
+put_mark h _ other = other
 
 -- an area that got bytes, or lost them
 abbrev pub moved_effect : ℕ → ℤ → ℕ → Effect
@@ -221,6 +295,9 @@ effect_of (command.Remove k) r = Removed k
 effect_of (command.CancelIn name id) r = GivenUp name
 effect_of (command.CancelOut name id) r = GivenUp name
 effect_of (command.Put name k offset bytes) r = Written k offset bytes
+effect_of (command.Raw (raw.Write name a bytes)) r = Stored name a bytes
+effect_of (command.Raw (raw.Transfer name a to place n)) r = Copied name n a to place
+effect_of (command.Raw (raw.Ack name)) (reply.Answering ref) = Acknowledged name ref
 effect_of _ _ = NoEffect
 
 -- what became of a heap's block, by the handle of the task that the command names
@@ -237,13 +314,17 @@ abbrev pub taken_mark : Reply → Option (ℕ × Action)
 taken_mark (reply.Event code action mine yours outcome) = Some (mine, action)
 taken_mark _ = None
 
+-- where a command put bytes, by its reply and the desk after it
+abbrev pub spot_put : Desk → Before → Command → Reply → Option SlotPlace
+spot_put d b c r = spot_by b.handle c (spot_taken (taken_mark r) (spot_sent (sent_by b (task_at b.handle d))))
+
 abbrev pub marks_for : Desk → Before → Command → Reply → Marks
 marks_for d b c r = record {
   handle = b.handle;
   effect = effect_of c r;
   heap_effect = heap_effect_of b.handle c r;
-  put = put_mark c;
-  heap = buffer_of (sent_by b (task_at b.handle d)) (heap_mark b.handle c r);
+  put = put_mark b.handle c (flex_block_in d (spot_put d b c r));
+  heap = heap_mark b.handle c r (heap_block_in d (spot_put d b c r));
   module_block = module_mark c r;
   sent = sent_by b (task_at b.handle d);
   taken = taken_mark r;

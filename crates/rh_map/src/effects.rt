@@ -2,14 +2,17 @@
 
 ghost use Rattle.std.specs.Prelude.{◌≡◌, ◌≤◌, ◌+◌, ◌++◌, codes, length};
 ghost use Rattle.std.specs.List.{list_all};
-ghost use Rattle.rh_figure.specs.Changes.{begun_line, budging_line, ended_line, given_up_line};
+ghost use Rattle.rh_figure.specs.Changes.{acknowledged_line, begun_line, budging_line, copied_line, ended_line};
+ghost use Rattle.rh_figure.specs.Changes.{given_up_line};
 ghost use Rattle.rh_figure.specs.Changes.{is_short_text as is_short, is_text_byte, made_line, moved_line};
-ghost use Rattle.rh_figure.specs.Changes.{quoted_text, removed_line, written_line};
+ghost use Rattle.rh_figure.specs.Changes.{quoted_text, removed_line, stored_line, written_line};
 ghost use Rattle.rh_lines.specs.declared.row.TheConstants.{ROW};
+ghost use Rattle.rh_map.specs.MapTasks.{who_text};
 
 use crate::areas::add_area_name;
 use crate::phrases::{add_pages, add_size};
-use rh_defs::{Anchor, Bytes, Handle, Name};
+use crate::who::{Who, add_who};
+use rh_defs::{Anchor, Bytes, Handle, Name, Ref};
 use rh_figure::limits::MOST_TOLD;
 use rh_lines::Row;
 
@@ -133,6 +136,55 @@ pub fn bytes_written(anchor: Anchor, offset: u32, bytes: &Bytes) -> Row
     row.text(b" from offset ");
     row.decimal(offset);
     add_quoted(&mut row, bytes.as_slice());
+    row
+}
+
+/// That bytes went to an address of a task, which are shown where they are a short text.
+pub fn bytes_stored(name: &Name, address: u32, bytes: &Bytes) -> Row
+    ensures value { result ≡ stored_line name.now address bytes.now }
+    ensures few { length result ≤ 200 }
+{
+    let mut row = Row::new();
+    add_size(&mut row, bytes.as_slice().len() as u32);
+    row.text(b" to ");
+    row.address(address);
+    row.text(b" of ");
+    row.text(name.as_bytes());
+    add_quoted(&mut row, bytes.as_slice());
+    row
+}
+
+/// That so many bytes went from an address of a task to one of another.
+pub fn bytes_copied(name: &Name, size: u32, address: u32, to: &Who<'_>, place: u32) -> Row
+    ensures value { result ≡ copied_line name.now size address (who_text to.now) place }
+    ensures few { length result ≤ 200 }
+{
+    let mut row = Row::new();
+    add_size(&mut row, size);
+    row.text(b" from ");
+    row.address(address);
+    row.text(b" of ");
+    row.text(name.as_bytes());
+    row.text(b" to ");
+    row.address(place);
+    row.text(b" of ");
+    add_who(&mut row, to);
+    row
+}
+
+/// That a task acknowledged the message with the ref, or held none where that is 0.
+pub fn message_acknowledged(name: &Name, my_ref: Ref) -> Row
+    ensures value { result ≡ acknowledged_line name.now my_ref }
+    ensures few { length result ≤ 200 }
+{
+    let mut row = Row::new();
+    row.text(name.as_bytes());
+    if my_ref.0 == 0 {
+        row.text(b" holds no message");
+        return row;
+    }
+    row.text(b" acknowledges message ");
+    row.decimal(my_ref.0);
     row
 }
 

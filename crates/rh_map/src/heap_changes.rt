@@ -4,16 +4,49 @@ ghost use Rattle.std.specs.Prelude.{◌≡◌, ◌≤◌, ◌<◌, ◌+◌, ◌^
 ghost use Rattle.std.specs.List.{concat};
 ghost use Rattle.std.specs.Fmt.{decimal};
 ghost use Rattle.rh_defs.specs.Text.{address as address_of};
-ghost use Rattle.rh_figure.specs.HeapChanges.{claimed_line, heap_block, hole_line, moved_block_line};
-ghost use Rattle.rh_figure.specs.HeapChanges.{segment_place_text};
+ghost use Rattle.rh_figure.specs.HeapChanges.{buffer_line, claimed_line, grown_line, heap_block, hole_line};
+ghost use Rattle.rh_figure.specs.HeapChanges.{moved_block_line, segment_place_text};
 ghost use Rattle.rh_figure.specs.HeapChanges.{released_line, room_text, stayed_line, top_line};
 ghost use Rattle.rh_figure.specs.HeapSegments.{item_end};
 ghost use Rattle.rh_lines.specs.declared.row.TheConstants.{ROW};
 
 use crate::phrases::add_size;
 use rh_defs::sizes::WORD;
-use rh_defs::{Handle, SegmentItem};
+use rh_defs::{Handle, Name, Ref, SegmentItem};
 use rh_lines::Row;
+
+/// That the C heap of a task had so many bytes, and has more now.
+pub fn heap_grown(name: &Name, had: u32, has: u32) -> Row
+    ensures value { result ≡ grown_line name.now had has }
+    ensures few { length result ≤ 200 }
+{
+    let mut row = Row::new();
+    row.text(b"The C heap of ");
+    row.text(name.as_bytes());
+    row.text(b" grows from ");
+    row.decimal(had);
+    row.text(b" to ");
+    add_size(&mut row, has);
+    row
+}
+
+/// That a task claimed a buffer for the transfer with the id, by the segment behind it.
+pub fn buffer_claimed(address: u32, id: Ref, size: u32, behind: Option<SegmentItem>) -> Row
+    requires small { size < 2 ^ 25 }
+    requires near { IfSome behind (λ i. item_end i < 2 ^ 25) }
+    ensures value { result ≡ buffer_line address id size behind }
+    ensures few { length result ≤ 200 }
+{
+    let mut row = Row::new();
+    row.text(b"Buffer ");
+    row.address(address);
+    row.text(b" of transfer ");
+    row.decimal(id.0);
+    row.text(b" is new: ");
+    add_size(&mut row, size);
+    add_room(&mut row, size, behind);
+    row
+}
 
 /// That a block of a heap was claimed, by the segment behind it.
 pub fn heap_block_claimed(handle: Handle, address: u32, size: u32, next: Option<SegmentItem>) -> Row

@@ -4,8 +4,8 @@ ghost use Rattle.std.specs.Prelude.{◌≡◌, ◌≤◌, ◌+◌, [], ◌∷◌
 ghost use Rattle.std.specs.List.{concat};
 ghost use Rattle.std.specs.Fmt.{decimal};
 ghost use Rattle.rh_defs.specs.Text.{action_name as action_name_of};
-ghost use Rattle.rh_figure.specs.Changes.{all_return_line, all_vanish_line, bytes_line, returns_line, sends_line};
-ghost use Rattle.rh_figure.specs.Changes.{takes_line, vanishes_line, why_text};
+ghost use Rattle.rh_figure.specs.Changes.{all_return_line, all_vanish_line, back_line, bytes_line, holds_line};
+ghost use Rattle.rh_figure.specs.Changes.{returns_line, sends_line, takes_line, vanishes_line, why_text};
 ghost use Rattle.rh_figure.specs.Map.{shown_line};
 ghost use Rattle.rh_lines.specs.declared.row.TheConstants.{ROW};
 ghost use Rattle.rh_map.specs.MapTasks.{who_text};
@@ -120,6 +120,30 @@ pub fn task_takes(who: &Who<'_>, action: Action, my_ref: Ref) -> Row
     add_who(&mut row, who);
     row.text(b" takes ");
     add_message(&mut row, action, my_ref);
+    row
+}
+
+/// That a message has come back to the task that takes it.
+pub fn message_came_back(action: Action, my_ref: Ref) -> Row
+    ensures value { result ≡ back_line action my_ref }
+    ensures few { length result ≤ 200 }
+{
+    let mut row = Row::new();
+    add_message(&mut row, action, my_ref);
+    row.text(b" has come back: nobody answered it");
+    row
+}
+
+/// That a task holds a message that it took.
+pub fn task_holds(who: &Who<'_>, action: Action, my_ref: Ref) -> Row
+    ensures value { result ≡ holds_line (who_text who.now) action my_ref }
+    ensures few { length result ≤ 200 }
+{
+    let mut row = Row::new();
+    add_who(&mut row, who);
+    row.text(b" holds ");
+    add_message(&mut row, action, my_ref);
+    row.text(b" until it answers or polls again");
     row
 }
 

@@ -1,10 +1,9 @@
 -- Answers as they are kept: how many lines each has, and what the first 4,096 bytes show of them.
 use Rattle.rh_pictures.proofs.Common.{◌≡◌, ℕ, zero, suc, ◌+◌, ◌*◌, ◌/◌, ◌%◌, ◌<◌, ◌≤◌, ◌⊎◌, inl, inr, Bool, true, false, eqb, refl, ap, ap₂, sym, subst, ◌∙◌}
 use Rattle.rh_pictures.proofs.Common.{arith, rules, List, [], ◌∷◌, ◌++◌, append-nil, append_assoc, length, take, map, Option, Some, None, Ok, Err, codes, find}
-use Rattle.rh_pictures.proofs.Common.{if◌then◌else◌, max, nat_le, not, slice_get, slice_index, ◌==◌, decimal, AllByRecursion, enumerate_from, flat_map}
+use Rattle.rh_pictures.proofs.Common.{if◌then◌else◌, max, not, slice_get, slice_index, decimal, AllByRecursion, enumerate_from, flat_map}
 use Rattle.rh_pictures.proofs.Common.{flat_map-append, length-append, BlockItem, Desk, Made, Task, task_pages, block_items, in_item, out_item, asked, ended}
 use Rattle.rh_pictures.proofs.Common.{unended, answer_text, first_line, cut, Excerpts, heap_seen, option_map}
-use Rattle.std.specs.Fmt.{digit_glyph, digits, digits_onto}
 use Rattle.std.proofs.lemmas.List.FromFn.{length-enumerate_from}
 use borrow.Author.Tests.{tests}
 use Rattle.hex.specs.Hex.{encode_with, lower_digits}
@@ -37,7 +36,8 @@ use Rattle.rh_scene.proofs.Places.{front-none, front-some}
 use Rattle.rh_scene.proofs.SegmentWalks.{length-items}
 use Rattle.rh_pictures.specs.Inner.SmallTasks.{AreSmall, IsSmallTask}
 use Rattle.rh_map.specs.Replies.{front_of}
-use Rattle.rh_pictures.proofs.ExcerptLemmas.{AreOpen, OneLine, address-open, decimal-open, first-one, line-one, one-kept, rest-one}
+use Rattle.rh_pictures.proofs.ExcerptLemmas.{AreOpen, AreWords, OneLine, ShortWord, address-word, decimal-open, decimal-word, few-numbers, first-one}
+use Rattle.rh_pictures.proofs.ExcerptLemmas.{line-one, number-words, one-kept, rest-few, rest-one, word-of, words-open}
 use Rattle.rh_map.proofs.FrontLemmas.{onto-long}
 use Rattle.std.proofs.Common.{sym}
 use Rattle.rh_defs.specs.declared.question.Numbers.{Numbers}
@@ -174,59 +174,7 @@ pub counted-kept : (n : ℕ) (text : List ℕ) → IsCounted n text → Excerpts
 counted-kept n text (inl t) = let P : ℕ → Type 0 = λ z. Excerpts (front_of text) z text in subst P (sym t.0) (one-kept text t.1)
 counted-kept n text (inr t) = short-kept n text t
 
--- ---- words of a line
-
--- a word without a line feed that is no longer than an address
-pub record ShortWord (w : List ℕ) : Type 0 where
-  pub open_ : NoFeed w
-  pub few : length w ≤ 65
-
-abbrev AreWords : Words → Type 0
-AreWords words = AllByRecursion ShortWord words
-
-onto-few : (k base : ℕ) (upper : Bool) (n : ℕ) (acc : List ℕ) → length (digits_onto k base upper n acc) ≤ k + length acc
-onto-few zero base upper n acc = omega arith
-onto-few (suc k) base upper n acc =
-    go (n / base == 0) (onto-few k base upper (n / base) (digit_glyph upper (n % base) ∷ acc))
-  where
-    go : (t : Bool)
-        → length (digits_onto k base upper (n / base) (digit_glyph upper (n % base) ∷ acc)) ≤ k + length (digit_glyph upper (n % base) ∷ acc)
-        → length (if t then digit_glyph upper (n % base) ∷ acc else digits_onto k base upper (n / base) (digit_glyph upper (n % base) ∷ acc)) ≤ suc k
-        + length acc
-    go true a = omega arith
-    go false a = omega arith
-
-digits-few : (base : ℕ) (upper : Bool) (n : ℕ) → length (digits base upper n) ≤ 64
-unfolding digits
-digits-few base upper n = onto-few 64 base upper n []
-
-decimal-word : (n : ℕ) → ShortWord (decimal n)
-decimal-word n = record { open_ = decimal-open n; few = omega (arith, digits-few 10 false n) }
-
-address-few : (n : ℕ) → length (address n) ≤ 65
-unfolding address
-address-few n = let few : length (digits 16 true n) ≤ 64 = digits-few 16 true n in omega arith
-
-address-word : (n : ℕ) → ShortWord (address n)
-address-word n = record { open_ = address-open n; few = address-few n }
-
-few-of : (n : ℕ) → nat_le n 65 ≡ true → n ≤ 65
-few-of n e = search (rules, tests)
-
--- a word that is spelled out
-word-of : (w : List ℕ) → ended w ≡ [] → nat_le (length w) 65 ≡ true → ShortWord w
-word-of w none few = record { open_ = no_feed_open w none; few = few-of (length w) few }
-
-words-open : (ws : Words) → AreWords ws → AreOpen ws
-words-open [] all = tt
-words-open (w ∷ ws) all = (all.0.open_, words-open ws all.1)
-
-rest-few : (ws : Words) → AreWords ws → length (rest_of_line ws) ≤ 66 * length ws + 1
-rest-few [] all = omega arith
-rest-few (w ∷ ws) all =
-    let rest : length (rest_of_line ws) ≤ 66 * length ws + 1 = rest-few ws all.1 in
-    let few = all.0.few in
-    omega (arith, length-append w (rest_of_line ws))
+-- ---- short lines of words
 
 short-line : (w : List ℕ) (ws : Words) → NoFeed w → length w ≤ 67 → AreWords ws → length ws ≤ 3 → ShortLines 1 (line w ws)
 short-line w ws open_ few all many =
@@ -356,7 +304,7 @@ lines-closed t none few = record {
   count = refl;
 }
 
-unended-closed : (xs : List ℕ) → unended (xs ++ 10 ∷ []) ≡ []
+pub unended-closed : (xs : List ℕ) → unended (xs ++ 10 ∷ []) ≡ []
 unended-closed xs = unended-append xs (10 ∷ []) ∙ unended_first (unended xs) [] (no_feed_open (unended xs) (ended-unended xs))
 
 -- line feeds are counted part by part
@@ -456,7 +404,7 @@ unfolding encode_with
 hex-open table clear [] = tt
 hex-open table clear (b ∷ bytes) = (index-open table clear (b / 16), (index-open table clear (b % 16), hex-open table clear bytes))
 
-hex-words : (bytes : List ℕ) → AreOpen (hex_words bytes)
+pub hex-words : (bytes : List ℕ) → AreOpen (hex_words bytes)
 hex-words [] = tt
 hex-words (b ∷ bytes) = (hex-open lower_digits (no_feed_open lower_digits refl) (b ∷ bytes), tt)
 
@@ -476,14 +424,8 @@ refused-one refusal = first-one (reply.Refused refusal)
 -- the first line of an answer that shows no bytes
 first-short : (numbers : Numbers) (listed : Listed) → shown_bytes listed ≡ [] → ShortLines 1 (first_line (reply.Answered numbers) listed)
 unfolding first_line
-first-short numbers listed none = rw none (ok-line (map decimal (each_of numbers) ++ []) (number-words (each_of numbers)) (three numbers))
-  where
-    number-words : (ns : List ℕ) → AreWords (map decimal ns ++ [])
-    number-words [] = tt
-    number-words (n ∷ ns) = (decimal-word n, number-words ns)
-
-    three : (numbers : Numbers) → length (map decimal (each_of numbers) ++ []) ≤ 3
-    three numbers = search (rules, arith)
+first-short numbers listed none =
+    rw none (ok-line (map decimal (each_of numbers) ++ []) (number-words (each_of numbers)) (few-numbers numbers))
 
 -- one of some
 all-at : (P : Task → Type 0) (ts : List Task) (i : ℕ) (t : Task) → AllByRecursion P ts → slice_get ts i ≡ Some t → P t

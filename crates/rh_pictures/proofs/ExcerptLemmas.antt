@@ -1,8 +1,8 @@
 -- Replies as they are kept: how many lines they have, and what their front shows.
-use Rattle.rh_pictures.proofs.Common.{◌≡◌, ℕ, zero, suc, ◌+◌, ◌/◌, ◌%◌, ◌<◌, ◌≤◌, Bool, true, false, eqb, refl, ap, ap₂, sym, subst, ◌∙◌, arith, List, [], ◌∷◌}
-use Rattle.rh_pictures.proofs.Common.{◌++◌, append-nil, append_assoc, length, take, drop, codes, if◌then◌else◌, nat_le, nat_lt, ◌==◌, decimal, AllByRecursion}
-use Rattle.rh_pictures.proofs.Common.{ne_eqb, nat_tests, length-append, length-drop, LineFault, TooLong, Reply, Nothing, ended, unended, fault_text, first_line}
-use Rattle.rh_pictures.proofs.Common.{cut, Excerpts}
+use Rattle.rh_pictures.proofs.Common.{◌≡◌, ℕ, zero, suc, ◌+◌, ◌*◌, ◌/◌, ◌%◌, ◌<◌, ◌≤◌, Bool, true, false, eqb, refl, ap, ap₂, sym, subst, ◌∙◌, arith, List, []}
+use Rattle.rh_pictures.proofs.Common.{◌∷◌, ◌++◌, append-nil, append_assoc, length, take, drop, codes, if◌then◌else◌, nat_le, nat_lt, ◌==◌, decimal}
+use Rattle.rh_pictures.proofs.Common.{AllByRecursion, ne_eqb, nat_tests, length-append, length-drop, LineFault, TooLong, Reply, Nothing, ended, unended}
+use Rattle.rh_pictures.proofs.Common.{fault_text, first_line, rules, cut, Excerpts}
 use Rattle.std.specs.Fmt.{digit_glyph, digits, digits_onto}
 use Rattle.rh_defs.specs.declared.fault.LineFault.TheVariants.{Unended, Unknown, Count, Word}
 use Rattle.rh_defs.specs.declared.message.Action.{Action}
@@ -21,7 +21,9 @@ use Rattle.rh_map.specs.Replies.{excerpt_lines, lines_in}
 use Rattle.rh_map.proofs.SeamLemmas.{whole-reply}
 use Rattle.std.specs.Prelude.{◌^◌, ◌-◌, min}
 use Rattle.rh_map.specs.Replies.{front_of}
+use Rattle.rh_defs.specs.declared.question.Numbers.{Numbers}
 use Rattle.rh_defs.specs.Questions.{each_of}
+use borrow.Author.Tests.{tests}
 use Rattle.std.proofs.Common.{length-take-le, map, take-append-drop}
 
 -- ---- words without a line feed
@@ -56,69 +58,124 @@ pub address-open : (n : ℕ) → NoFeed (address n)
 unfolding address
 address-open n = (refl, digits-open 16 true n)
 
-refusal-open : (r : Refusal) → NoFeed (refusal_name r)
-refusal-open NameInUse = no_feed_open (codes "NameInUse") refl
-refusal-open NoName = no_feed_open (codes "NoName") refl
-refusal-open TooManyTasks = no_feed_open (codes "TooManyTasks") refl
-refusal-open NoHandles = no_feed_open (codes "NoHandles") refl
-refusal-open NoFile = no_feed_open (codes "NoFile") refl
-refusal-open NoBlock = no_feed_open (codes "NoBlock") refl
-refusal-open AnchorInUse = no_feed_open (codes "AnchorInUse") refl
-refusal-open NotABlock = no_feed_open (codes "NotABlock") refl
-refusal-open NotYours = no_feed_open (codes "NotYours") refl
-refusal-open Busy = no_feed_open (codes "Busy") refl
-refusal-open NotOpen = no_feed_open (codes "NotOpen") refl
-refusal-open NothingSent = no_feed_open (codes "NothingSent") refl
-refusal-open BadRange = no_feed_open (codes "BadRange") refl
-refusal-open BadSize = no_feed_open (codes "BadSize") refl
-refusal-open ExcessiveShrink = no_feed_open (codes "ExcessiveShrink") refl
-refusal-open NoTask = no_feed_open (codes "NoTask") refl
-refusal-open NoRefs = no_feed_open (codes "NoRefs") refl
-refusal-open QueueFull = no_feed_open (codes "QueueFull") refl
-refusal-open NoBudge = no_feed_open (codes "NoBudge") refl
-refusal-open NoRoom = no_feed_open (codes "NoRoom") refl
-refusal-open NoArea = no_feed_open (codes "NoArea") refl
-refusal-open TooManyAreas = no_feed_open (codes "TooManyAreas") refl
-refusal-open NoNumbers = no_feed_open (codes "NoNumbers") refl
-refusal-open TooBig = no_feed_open (codes "TooBig") refl
-refusal-open WrongManner = no_feed_open (codes "WrongManner") refl
-refusal-open BadRef = no_feed_open (codes "BadRef") refl
+-- a word without a line feed that is no longer than an address
+pub record ShortWord (w : List ℕ) : Type 0 where
+  pub open_ : NoFeed w
+  pub few : length w ≤ 65
 
-action-open : (a : Action) → NoFeed (action_name a)
-action-open action.DataSave = no_feed_open (codes "DataSave") refl
-action-open action.DataSaveAck = no_feed_open (codes "DataSaveAck") refl
-action-open action.DataLoad = no_feed_open (codes "DataLoad") refl
-action-open action.DataLoadAck = no_feed_open (codes "DataLoadAck") refl
-action-open action.RamFetch = no_feed_open (codes "RAMFetch") refl
-action-open action.RamTransmit = no_feed_open (codes "RAMTransmit") refl
-action-open (action.Other number) = decimal-open number
+abbrev pub AreWords : Words → Type 0
+AreWords words = AllByRecursion ShortWord words
 
-switch-open : (on : Bool) → NoFeed (on_or_off on)
-switch-open true = no_feed_open (codes "on") refl
-switch-open false = no_feed_open (codes "off") refl
+onto-few : (k base : ℕ) (upper : Bool) (n : ℕ) (acc : List ℕ) → length (digits_onto k base upper n acc) ≤ k + length acc
+onto-few zero base upper n acc = omega arith
+onto-few (suc k) base upper n acc =
+    go (n / base == 0) (onto-few k base upper (n / base) (digit_glyph upper (n % base) ∷ acc))
+  where
+    go : (t : Bool)
+        → length (digits_onto k base upper (n / base) (digit_glyph upper (n % base) ∷ acc)) ≤ k + length (digit_glyph upper (n % base) ∷ acc)
+        → length (if t then digit_glyph upper (n % base) ∷ acc else digits_onto k base upper (n / base) (digit_glyph upper (n % base) ∷ acc)) ≤ suc k
+        + length acc
+    go true a = omega arith
+    go false a = omega arith
+
+digits-few : (base : ℕ) (upper : Bool) (n : ℕ) → length (digits base upper n) ≤ 64
+unfolding digits
+digits-few base upper n = onto-few 64 base upper n []
+
+pub decimal-word : (n : ℕ) → ShortWord (decimal n)
+decimal-word n = record { open_ = decimal-open n; few = omega (arith, digits-few 10 false n) }
+
+address-few : (n : ℕ) → length (address n) ≤ 65
+unfolding address
+address-few n = let few : length (digits 16 true n) ≤ 64 = digits-few 16 true n in omega arith
+
+pub address-word : (n : ℕ) → ShortWord (address n)
+address-word n = record { open_ = address-open n; few = address-few n }
+
+few-of : (n : ℕ) → nat_le n 65 ≡ true → n ≤ 65
+few-of n e = search (rules, tests)
+
+-- a word that is spelled out
+pub word-of : (w : List ℕ) → ended w ≡ [] → nat_le (length w) 65 ≡ true → ShortWord w
+word-of w none few = record { open_ = no_feed_open w none; few = few-of (length w) few }
 
 abbrev pub AreOpen : Words → Type 0
 AreOpen words = AllByRecursion NoFeed words
 
-outcome-open : (o : Outcome) → AreOpen (outcome_words o)
-outcome-open outcome.Ignored = (no_feed_open (codes "ignored") refl, tt)
-outcome-open (outcome.Fetch ref) = (no_feed_open (codes "fetch") refl, (decimal-open ref, tt))
-outcome-open (outcome.Sent count ref) = (no_feed_open (codes "sent") refl, (decimal-open count, (decimal-open ref, tt)))
-outcome-open (outcome.Refused refusal) = (no_feed_open (codes "failed") refl, (refusal-open refusal, tt))
-outcome-open outcome.Failed = (no_feed_open (codes "failed") refl, tt)
-outcome-open outcome.Drained = (no_feed_open (codes "drained") refl, tt)
-outcome-open (outcome.TookLast count) = (no_feed_open (codes "took") refl, (decimal-open count, (no_feed_open (codes "done") refl, tt)))
-outcome-open (outcome.TookFull count ref) =
-    (no_feed_open (codes "took") refl, (decimal-open count, (no_feed_open (codes "fetch") refl, (decimal-open ref, tt))))
-outcome-open (outcome.TookFailed count refusal) =
-    (no_feed_open (codes "took") refl, (decimal-open count, (no_feed_open (codes "failed") refl, (refusal-open refusal, tt))))
-outcome-open (outcome.Asked ref) = (no_feed_open (codes "asked") refl, (decimal-open ref, tt))
-outcome-open (outcome.Saved count ref) = (no_feed_open (codes "saved") refl, (decimal-open count, (decimal-open ref, tt)))
-outcome-open (outcome.Loaded count) = (no_feed_open (codes "loaded") refl, (decimal-open count, (no_feed_open (codes "done") refl, tt)))
-outcome-open (outcome.LoadedFailed count refusal) =
-    (no_feed_open (codes "loaded") refl, (decimal-open count, (no_feed_open (codes "failed") refl, (refusal-open refusal, tt))))
-outcome-open outcome.Done = (no_feed_open (codes "done") refl, tt)
-outcome-open outcome.Taken = (no_feed_open (codes "taken") refl, tt)
+pub words-open : (ws : Words) → AreWords ws → AreOpen ws
+words-open [] all = tt
+words-open (w ∷ ws) all = (all.0.open_, words-open ws all.1)
+
+pub rest-few : (ws : Words) → AreWords ws → length (rest_of_line ws) ≤ 66 * length ws + 1
+rest-few [] all = omega arith
+rest-few (w ∷ ws) all =
+    let rest : length (rest_of_line ws) ≤ 66 * length ws + 1 = rest-few ws all.1 in
+    let few = all.0.few in
+    omega (arith, length-append w (rest_of_line ws))
+
+refusal-word : (r : Refusal) → ShortWord (refusal_name r)
+refusal-word NameInUse = word-of (codes "NameInUse") refl refl
+refusal-word NoName = word-of (codes "NoName") refl refl
+refusal-word TooManyTasks = word-of (codes "TooManyTasks") refl refl
+refusal-word NoHandles = word-of (codes "NoHandles") refl refl
+refusal-word NoFile = word-of (codes "NoFile") refl refl
+refusal-word NoBlock = word-of (codes "NoBlock") refl refl
+refusal-word AnchorInUse = word-of (codes "AnchorInUse") refl refl
+refusal-word NotABlock = word-of (codes "NotABlock") refl refl
+refusal-word NotYours = word-of (codes "NotYours") refl refl
+refusal-word Busy = word-of (codes "Busy") refl refl
+refusal-word NotOpen = word-of (codes "NotOpen") refl refl
+refusal-word NothingSent = word-of (codes "NothingSent") refl refl
+refusal-word BadRange = word-of (codes "BadRange") refl refl
+refusal-word BadSize = word-of (codes "BadSize") refl refl
+refusal-word ExcessiveShrink = word-of (codes "ExcessiveShrink") refl refl
+refusal-word NoTask = word-of (codes "NoTask") refl refl
+refusal-word NoRefs = word-of (codes "NoRefs") refl refl
+refusal-word QueueFull = word-of (codes "QueueFull") refl refl
+refusal-word NoBudge = word-of (codes "NoBudge") refl refl
+refusal-word NoRoom = word-of (codes "NoRoom") refl refl
+refusal-word NoArea = word-of (codes "NoArea") refl refl
+refusal-word TooManyAreas = word-of (codes "TooManyAreas") refl refl
+refusal-word NoNumbers = word-of (codes "NoNumbers") refl refl
+refusal-word TooBig = word-of (codes "TooBig") refl refl
+refusal-word WrongManner = word-of (codes "WrongManner") refl refl
+refusal-word BadRef = word-of (codes "BadRef") refl refl
+
+action-word : (a : Action) → ShortWord (action_name a)
+action-word action.DataSave = word-of (codes "DataSave") refl refl
+action-word action.DataSaveAck = word-of (codes "DataSaveAck") refl refl
+action-word action.DataLoad = word-of (codes "DataLoad") refl refl
+action-word action.DataLoadAck = word-of (codes "DataLoadAck") refl refl
+action-word action.RamFetch = word-of (codes "RAMFetch") refl refl
+action-word action.RamTransmit = word-of (codes "RAMTransmit") refl refl
+action-word (action.Other number) = decimal-word number
+
+switch-word : (on : Bool) → ShortWord (on_or_off on)
+switch-word true = word-of (codes "on") refl refl
+switch-word false = word-of (codes "off") refl refl
+
+outcome-words : (o : Outcome) → AreWords (outcome_words o)
+outcome-words outcome.Ignored = (word-of (codes "ignored") refl refl, tt)
+outcome-words (outcome.Fetch ref) = (word-of (codes "fetch") refl refl, (decimal-word ref, tt))
+outcome-words (outcome.Sent count ref) = (word-of (codes "sent") refl refl, (decimal-word count, (decimal-word ref, tt)))
+outcome-words (outcome.Refused refusal) = (word-of (codes "failed") refl refl, (refusal-word refusal, tt))
+outcome-words outcome.Failed = (word-of (codes "failed") refl refl, tt)
+outcome-words outcome.Drained = (word-of (codes "drained") refl refl, tt)
+outcome-words (outcome.TookLast count) = (word-of (codes "took") refl refl, (decimal-word count, (word-of (codes "done") refl refl, tt)))
+outcome-words (outcome.TookFull count ref) =
+    (word-of (codes "took") refl refl, (decimal-word count, (word-of (codes "fetch") refl refl, (decimal-word ref, tt))))
+outcome-words (outcome.TookFailed count refusal) =
+    (word-of (codes "took") refl refl, (decimal-word count, (word-of (codes "failed") refl refl, (refusal-word refusal, tt))))
+outcome-words (outcome.Asked ref) = (word-of (codes "asked") refl refl, (decimal-word ref, tt))
+outcome-words (outcome.Saved count ref) = (word-of (codes "saved") refl refl, (decimal-word count, (decimal-word ref, tt)))
+outcome-words (outcome.Loaded count) = (word-of (codes "loaded") refl refl, (decimal-word count, (word-of (codes "done") refl refl, tt)))
+outcome-words (outcome.LoadedFailed count refusal) =
+    (word-of (codes "loaded") refl refl, (decimal-word count, (word-of (codes "failed") refl refl, (refusal-word refusal, tt))))
+outcome-words outcome.Done = (word-of (codes "done") refl refl, tt)
+outcome-words outcome.Taken = (word-of (codes "taken") refl refl, tt)
+
+outcome-few : (o : Outcome) → length (outcome_words o) ≤ 4
+outcome-few o = search (rules, arith)
 
 -- ---- texts of one line
 
@@ -143,29 +200,59 @@ line-one w ws here all =
     let r = rest-one ws all in
     record { words = w ++ r.words; open_ = no_feed_join w r.words here r.open_; is = ap (λ z. w ++ z) r.is ∙ sym (append_assoc w r.words (10 ∷ [])) }
 
-ok-one : (ws : Words) → AreOpen ws → OneLine (line (codes "ok") ws)
-ok-one ws all = line-one (codes "ok") ws (no_feed_open (codes "ok") refl) all
+-- a line of a first word and eight more at most
+record Worded (text : List ℕ) : Type 0 where
+  first : List ℕ
+  words : Words
+  here : ShortWord first
+  all : AreWords words
+  few : length words ≤ 8
+  is : text ≡ line first words
 
-numbers-open : (ns : List ℕ) → AreOpen (map decimal ns ++ [])
-numbers-open [] = tt
-numbers-open (n ∷ ns) = (decimal-open n, numbers-open ns)
+refused-worded : (ws : Words) → AreWords ws → length ws ≤ 8 → Worded (line (codes "refused") ws)
+refused-worded ws all few = record { first = codes "refused"; words = ws; here = word-of (codes "refused") refl refl; all = all; few = few; is = refl }
+
+ok-worded : (ws : Words) → AreWords ws → length ws ≤ 8 → Worded (line (codes "ok") ws)
+ok-worded ws all few = record { first = codes "ok"; words = ws; here = word-of (codes "ok") refl refl; all = all; few = few; is = refl }
+
+pub number-words : (ns : List ℕ) → AreWords (map decimal ns ++ [])
+number-words [] = tt
+number-words (n ∷ ns) = (decimal-word n, number-words ns)
+
+pub few-numbers : (numbers : Numbers) → length (map decimal (each_of numbers) ++ []) ≤ 3
+few-numbers numbers = search (rules, arith)
+
+first-worded : (r : Reply) → Worded (first_line r Nothing)
+unfolding first_line
+first-worded (reply.Refused refusal) = refused-worded (refusal_name refusal ∷ []) (refusal-word refusal, tt) (omega arith)
+first-worded reply.Done = ok-worded [] tt (omega arith)
+first-worded (reply.Started handle) = ok-worded (decimal handle ∷ []) (decimal-word handle, tt) (omega arith)
+first-worded (reply.Block place) = ok-worded (address place ∷ []) (address-word place, tt) (omega arith)
+first-worded (reply.WasBudging on) = ok-worded (on_or_off on ∷ []) (switch-word on, tt) (omega arith)
+first-worded (reply.Sent ref) = ok-worded (decimal ref ∷ []) (decimal-word ref, tt) (omega arith)
+first-worded (reply.Answering ref) = ok-worded (decimal ref ∷ []) (decimal-word ref, tt) (omega arith)
+first-worded (reply.Moved bytes) = ok-worded (decimal bytes ∷ []) (decimal-word bytes, tt) (omega arith)
+first-worded (reply.Made number) = ok-worded (decimal number ∷ []) (decimal-word number, tt) (omega arith)
+first-worded (reply.Answered numbers) =
+    ok-worded (map decimal (each_of numbers) ++ []) (number-words (each_of numbers)) (omega (arith, few-numbers numbers))
+first-worded reply.NoEvent = ok-worded (codes "0" ∷ []) (word-of (codes "0") refl refl, tt) (omega arith)
+first-worded (reply.Event code action mine yours outcome) =
+    ok-worded (decimal (code_number code) ∷ action_name action ∷ decimal mine ∷ decimal yours ∷ outcome_words outcome)
+    (decimal-word (code_number code), (action-word action, (decimal-word mine, (decimal-word yours, outcome-words outcome))))
+    (omega (arith, outcome-few outcome))
 
 pub first-one : (r : Reply) → OneLine (first_line r Nothing)
-unfolding first_line
-first-one (reply.Refused refusal) = line-one (codes "refused") (refusal_name refusal ∷ []) (no_feed_open (codes "refused") refl) (refusal-open refusal, tt)
-first-one reply.Done = ok-one [] tt
-first-one (reply.Started handle) = ok-one (decimal handle ∷ []) (decimal-open handle, tt)
-first-one (reply.Block place) = ok-one (address place ∷ []) (address-open place, tt)
-first-one (reply.WasBudging on) = ok-one (on_or_off on ∷ []) (switch-open on, tt)
-first-one (reply.Sent ref) = ok-one (decimal ref ∷ []) (decimal-open ref, tt)
-first-one (reply.Answering ref) = ok-one (decimal ref ∷ []) (decimal-open ref, tt)
-first-one (reply.Moved bytes) = ok-one (decimal bytes ∷ []) (decimal-open bytes, tt)
-first-one (reply.Made number) = ok-one (decimal number ∷ []) (decimal-open number, tt)
-first-one (reply.Answered numbers) = ok-one (map decimal (each_of numbers) ++ []) (numbers-open (each_of numbers))
-first-one reply.NoEvent = ok-one (codes "0" ∷ []) (no_feed_open (codes "0") refl, tt)
-first-one (reply.Event code action mine yours outcome) =
-    ok-one (decimal (code_number code) ∷ action_name action ∷ decimal mine ∷ decimal yours ∷ outcome_words outcome)
-    (decimal-open (code_number code), (action-open action, (decimal-open mine, (decimal-open yours, outcome-open outcome))))
+first-one r =
+    let t = first-worded r in
+    subst OneLine (sym t.is) (line-one t.first t.words t.here.open_ (words-open t.words t.all))
+
+-- the first line of a reply has room in a front with more
+pub first-few : (r : Reply) → length (first_line r Nothing) ≤ 594
+first-few r =
+    let t = first-worded r in
+    let here = t.here.few in
+    let many = t.few in
+    omega (arith, ap length t.is, length-append t.first (rest_of_line t.words), rest-few t.words t.all)
 
 pub fault-one : (f : LineFault) → OneLine (fault_text f)
 unfolding fault_text

@@ -18,6 +18,7 @@ pub mod CardLemmas
 pub mod HeapLemmas
 pub mod ExcerptLemmas
 pub mod AnswerLemmas
+mod HandedLemmas
 pub mod MapStepLemmas
 pub mod Common
 pub mod BandLemmas

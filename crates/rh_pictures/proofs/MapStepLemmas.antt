@@ -56,7 +56,8 @@ shared-as desk s a b e h = let P : Desk → Type 0 = λ z. IsShared s z in subst
 
 -- the step of a command, by a desk and a reply that show what those of the command do
 pub step-shown : (wanted : Bool) (n : ℕ) (line : Text) (d e : Desk) (s : Share) (c : Command) (r : Reply) → IsReordered (step d c).0 e → IsLikeReply d c r
-    → lines_of_step wanted n line (reply_to d c) e s (before_of d (Some c)) (Some c) r ≡ command_lines wanted s n line c (before_of d (Some c)) (step d c)
+    → lines_of_step wanted n line (reply_to d c) e s (before_of d (Some c)) (Some c) r
+    ≡ command_lines wanted s n line c (reply_to d c) (before_of d (Some c)) (step d c)
 step-shown wanted n line d e s c r is like =
     let b = before_of d (Some c) in
     let said = (step d c).1 in
@@ -246,7 +247,7 @@ module _ {D : Type 0} (desk : D → Desk) (m b : Mapper D) (line : Text) (old : 
       let drawn = ap (λ (z : Mapper D). desk z.drawn) counts in
       ap₂ (λ x y. lines_of_step x a.lines line (reply_to (desk b.drawn) c) (desk a.drawn) s y (Some c) r) was kept
       ∙ (step-shown m.wanted a.lines line (desk b.drawn) (desk a.drawn) s c r is like
-      ∙ (ap₂ (λ n z. command_lines m.wanted s n line c (before_of z (Some c)) (step z c)) (lines ∙ ap (λ (z : Mapper D). z.lines) counts) drawn
+      ∙ (ap₂ (λ n z. command_lines m.wanted s n line c (reply_to z c) (before_of z (Some c)) (step z c)) (lines ∙ ap (λ (z : Mapper D). z.lines) counts) drawn
       ∙ sym (when-on (shown-test test))))
 
   -- those of a bad line

@@ -58,7 +58,7 @@ held-in ref (s ∷ seats) = go s.holds (held-in ref seats)
     go None rest = rest
     go (Some p) rest = ap (λ b. p.message.my_ref == ref || b) rest
 
-held-is : (d : Desk) (ref : ℕ)
+pub held-is : (d : Desk) (ref : ℕ)
     → list_any (holds_as ref) (message_items d) ≡ list_any (λ (s : Seat). answers_held ref s.holds) d.post.seats
 held-is d ref = none-held ref (waiting_on d) (map (seen_item true) (held_on d)) ∙ held-in ref d.post.seats
 
@@ -66,14 +66,14 @@ held-is d ref = none-held ref (waiting_on d) (map (seen_item true) (held_on d)) 
 
 -- where the message of a note is, by the list of messages
 seen-is : (d : Desk) (s : Share) (b : Before) (m : Marks) (ms : List MessageItem) (sent : Option (Letter × ℕ)) (answered : ℕ) (n : Note)
-    → ms ≡ message_items d → answered ≡ answered_by sent
+    → ms ≡ message_items d → answered ≡ answered_by b.acknowledged sent
     → seen_among d answered ms n ≡ whereabouts (scene_of d s b m) sent n
 seen-is d s b m ms sent answered n e k =
     ap₂ (λ messages ref. seen_among d ref messages n) e k
     ∙ ap₂ (λ code held. record {
       code = code;
       held = held;
-      answered = n.my_ref == answered_by sent;
+      answered = n.my_ref == answered_by b.acknowledged sent;
       live = is_some (task_at (next_taker n) d);
     }) (code-is d n.my_ref) (held-is d n.my_ref)
 
@@ -98,14 +98,15 @@ refilled xs ws e =
 -- the notes after a step, by the list of messages and what was sent
 pub noted-is : (d : Desk) (s : Share) (b : Before) (m : Marks) (step : ℕ) (ms : List MessageItem) (notes : List Note)
     (sent : Option (Letter × ℕ)) (answered : ℕ)
-    → ms ≡ message_items d → sent ≡ sent_by b (task_at b.handle d) → answered ≡ answered_by (sent_by b (task_at b.handle d))
+    → ms ≡ message_items d → sent ≡ sent_by b (task_at b.handle d) → answered ≡ answered_by b.acknowledged (sent_by b (task_at b.handle d))
     → noted step (scene_of d s b m) notes
     ≡ last_of MOST_NOTES (map (λ (n : Note). followed step (seen_among d answered ms n) n) notes ++ new_notes step sent)
 noted-is d s b m step ms notes sent answered e k a =
     let x : Scene = scene_of d s b m in
     ap (λ o. noted_with step x o notes) (sym k)
     ∙ ap (λ ns. last_of MOST_NOTES (ns ++ new_notes step sent))
-    (followed-same step (whereabouts x sent) (seen_among d answered ms) (λ n. sym (seen-is d s b m ms sent answered n e (a ∙ ap answered_by (sym k)))) notes)
+    (followed-same step (whereabouts x sent) (seen_among d answered ms)
+    (λ n. sym (seen-is d s b m ms sent answered n e (a ∙ ap (answered_by b.acknowledged) (sym k)))) notes)
 
 -- a loop that writes f x over each element x, which it reads by its place
 pub written-more : {X : Type 0} (f : X → X) (xs ys : List X) (i : ℕ) (d : X)

@@ -10,7 +10,7 @@ use Rattle.rh_pictures.proofs.ScriptLemmas.{or-off, or-on, reordered-as, shared-
 use Rattle.rh_figure.specs.Scene.{before_of}
 use Rattle.rh_figure.specs.Map.{is_mark, place}
 use Rattle.rh_figure.proofs.Alike.{marks-alike, scene-alike}
-use Rattle.rh_sheet.specs.Sheet.{behind_happened, behind_step, command_happened, is_shown, is_shown_remark, opening, shown_step}
+use Rattle.rh_sheet.specs.Sheet.{behind_happened, behind_step, command_on, is_shown, is_shown_remark, opening, shown_step}
 use Rattle.rh_sheet.specs.SheetSteps.{remark_text}
 use Rattle.rh_sheet.specs.declared.sizes.TheConstants.{MOST_STEPS}
 use Rattle.rh_pictures.specs.PaintedProgress.{stand_shown}
@@ -112,7 +112,7 @@ module _ {D : Type 0} (desk : D → Desk) (m b n : Painter D) (o p : List ℕ) (
       (desk m.drawn) c reply)
       (kept-is : kept ≡ before_of (desk m.drawn) (Some c)) where
     same-command : (s : Share) → happened_at (desk b.drawn) s kept (Some c) reply (reply_to (desk m.drawn) c)
-        ≡ command_happened s c (before_of (desk m.drawn) (Some c)) (step (desk m.drawn) c)
+        ≡ command_on s c (desk m.drawn)
     same-command s =
         let f = before_of (desk m.drawn) (Some c) in
         let said = (step (desk m.drawn) c).1 in

@@ -1,36 +1,13 @@
 -- Where a sheet stands, but for the order of messages to different tasks.
-use Rattle.rh_pictures.proofs.Common.{◌≡◌, Bool, true, List, refl, sym, ap, ap₂, ◌∙◌, subst, [], ◌∷◌, ◌++◌, Some, None, Ok, Err, Command, LineFault, Desk}
-use Rattle.rh_pictures.proofs.Common.{IsReordered, step, fault_text, Share, IsShared, Before, marks_of, scene_of, Place, Read, Stage, after_read, AreShared}
-use Rattle.rh_pictures.proofs.Common.{at_desk, Walk, behind_read, fault_happened, happened_text, read_text, sheet_lines, Painter, walk_in}
-use Rattle.rh_defs.specs.declared.reply.Reply.{Reply}
-use Rattle.rh_defs.proofs.Steps.{order-ignored}
-use Rattle.rh_figure.specs.Scene.{before_of, is_still, no_marks}
-use Rattle.rh_figure.proofs.Alike.{before-alike, marks-alike, scene-alike, text-alike}
+use Rattle.rh_pictures.proofs.Common.{◌≡◌, Bool, List, refl, sym, ap, ap₂, ◌∙◌, subst, [], ◌∷◌, ◌++◌, Some, None, Ok, Err, Desk}
+use Rattle.rh_pictures.proofs.Common.{IsReordered, Share, IsShared, Place, Read, Stage, after_read, AreShared}
+use Rattle.rh_pictures.proofs.Common.{at_desk, Walk, behind_read, happened_text, read_text, sheet_lines, Painter, walk_in}
 use Rattle.rh_pictures.proofs.ScriptLemmas.{SamePlaces, places-alike, reordered-more, shared-alike}
-use Rattle.rh_sheet.specs.Sheet.{behind_happened, command_happened}
+use Rattle.rh_sheet.specs.Sheet.{behind_happened}
+use Rattle.rh_sheet.proofs.Alike.{command-alike, fault-alike}
 use Rattle.rh_pictures.specs.PaintedWalks.{FollowsPainting}
 
 -- ---- what a line does on two desks
-
-after-alike : {x y : Desk} → IsReordered x y → (s : Share) (c : Command) (f : Before) (r : Reply)
-    → command_happened s c f (y, r) ≡ command_happened s c f (x, r)
-after-alike {x} {y} is s c f r =
-    ap₂ (λ scene reply. record { scene = scene; reply = reply; still = is_still (Some c) r })
-    (ap (scene_of y s f) (marks-alike is f (Some c) r) ∙ scene-alike is s f (marks_of x f (Some c) r))
-    (text-alike is c r)
-
-command-alike : {a b : Desk} → IsReordered a b → (s : Share) (c : Command)
-    → command_happened s c (before_of b (Some c)) (step b c) ≡ command_happened s c (before_of a (Some c)) (step a c)
-command-alike {a} {b} is s c =
-    let steps = order-ignored a b c is in
-    ap (λ f. command_happened s c f (step b c)) (before-alike is (Some c))
-    ∙ (ap (λ r. command_happened s c (before_of a (Some c)) ((step b c).0, r)) steps.reply
-    ∙ after-alike steps.desks s c (before_of a (Some c)) (step a c).1)
-
-fault-alike : {a b : Desk} → IsReordered a b → (s : Share) (fault : LineFault) → fault_happened s fault b ≡ fault_happened s fault a
-fault-alike {a} {b} is s fault =
-    ap (λ f. record { scene = scene_of b s f no_marks; reply = fault_text fault; still = true }) (before-alike is None)
-    ∙ ap (λ scene. record { scene = scene; reply = fault_text fault; still = true }) (scene-alike is s (before_of a None) no_marks)
 
 -- the same is written
 read-alike : (marked : Bool) (s : Share) {a b : Desk} (x : Walk) (r : Read) → IsReordered a b

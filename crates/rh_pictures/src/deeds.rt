@@ -42,8 +42,8 @@ pub struct Above<'a> {
     pub is_still: bool,
 }
 
-/// Does a command, puts the front of its reply in its place, and answers the reply and how many lines it has. A
-/// question changes nothing, and its answer's words and numbers aren't needed: Done stands in their place.
+/// Does a command, puts the front of all that is answered to it in its place, and answers the reply and how many lines
+/// that has. A question changes nothing, and its answer's words and numbers aren't needed: Done stands in their place.
 pub fn answer<D: Drawn>(drawn: &mut D, command: &Command, front: &mut Front) -> (Reply, u32)
     requires in_range { IsTrue (in_range command.now) }
     ensures desk { IsReordered (step (D.desk drawn.old) command.now).0 (D.desk drawn.new) }
@@ -54,8 +54,9 @@ pub fn answer<D: Drawn>(drawn: &mut D, command: &Command, front: &mut Front) -> 
         let count = excerpt_answer(drawn, question, front);
         return (Reply::Done, count);
     }
+    let handed = drawn.handed(command);
     let reply = drawn.apply(command);
-    let count = excerpt_reply(&reply, front);
+    let count = excerpt_reply(&reply, &handed, front);
     (reply, count)
 }
 

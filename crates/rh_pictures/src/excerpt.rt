@@ -1,16 +1,17 @@
 //! The first lines of a reply, and how many lines it has.
 
-ghost use Rattle.std.specs.Prelude.{IsTrue};
+ghost use Rattle.std.specs.Prelude.{◌≡◌, ◌≤◌, ◌++◌, IfSome, IsTrue, length};
+ghost use Rattle.rh_defs.specs.declared.sizes.TheConstants.{LONGEST_DATA};
 ghost use Rattle.rh_defs.specs.Questions.{Nothing, asked};
 ghost use Rattle.rh_defs.specs.Range.{can_be_asked};
-ghost use Rattle.rh_defs.specs.Text.{answer_text, fault_text, first_line};
+ghost use Rattle.rh_defs.specs.Text.{answer_text, fault_text, first_line, handed_text};
 ghost use Rattle.rh_pictures.specs.DrawnReplies.{Excerpts};
 ghost use Rattle.rh_pictures.specs.Inner.SmallTasks.{AreSmall};
 ghost use Rattle.rh_map.specs.Replies.{front_of};
 
 use crate::drawn::Drawn;
-use rh_defs::{LineFault, Question, Reply};
-use rh_lines::{put_fault, put_first_line};
+use rh_defs::{Data, Handle, LineFault, Question, Reply};
+use rh_lines::{put_fault, put_first_line, put_handed_line};
 use rh_map::Front;
 use rh_scene::Sight;
 
@@ -26,13 +27,26 @@ pub fn excerpt_answer<D: Drawn>(drawn: &D, question: &Question, front: &mut Fron
     front.lines()
 }
 
-/// Puts the first line of a reply in place of what was there, and answers how many lines it has.
-pub fn excerpt_reply(reply: &Reply, front: &mut Front) -> u32
-    ensures { Excerpts (front_of front.new) result (first_line reply.now Nothing) }
+/// Puts the first line of a reply, and that of a message that is handed out, in place of what was there, and answers
+/// how many lines these are.
+pub fn excerpt_reply(reply: &Reply, handed: &Option<(Handle, Data)>, front: &mut Front) -> u32
+    ensures { Excerpts (front_of front.new) result (first_line reply.now Nothing ++ handed_text handed.now) }
 {
     front.clear();
     put_first_line(reply, front);
+    put_handed(handed, front);
     front.lines()
+}
+
+/// Appends the line of a message that is handed out, where there is one.
+fn put_handed(handed: &Option<(Handle, Data)>, front: &mut Front)
+    ensures text { front.new ≡ front.old ++ handed_text handed.now }
+    ensures short { IfSome handed.now (λ parts. length parts.1 ≤ LONGEST_DATA) }
+{
+    match handed {
+        Some(parts) => put_handed_line(parts.0, parts.1.as_slice(), front),
+        None => {}
+    }
 }
 
 /// Puts the reply of a bad line in place of what was there, and answers how many lines it has.

@@ -11,5 +11,6 @@ pub mod heap_changes;
 pub mod letters;
 pub mod page_changes;
 pub mod post_changes;
+pub mod taken_changes;
 pub mod transfers;
 pub mod usage;

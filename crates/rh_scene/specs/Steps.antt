@@ -31,6 +31,9 @@ effect_seen (variant.Made number most) = scene.Made number most
 effect_seen (variant.Removed number) = scene.Removed number
 effect_seen (variant.GivenUp name) = scene.GivenUp name.now
 effect_seen (variant.Written anchor offset bytes) = scene.Written anchor offset bytes.now
+effect_seen (variant.Stored name address bytes) = scene.Stored name.now address bytes.now
+effect_seen (variant.Copied name size address to place) = scene.Copied name.now size address to place
+effect_seen (variant.Acknowledged name ref) = scene.Acknowledged name.now ref
 
 -- what a command did
 abbrev pub marks_seen : Marks → scene.Marks
@@ -45,9 +48,10 @@ marks_seen m = record {
   taken = m.taken;
 }
 
--- the task that may send a letter at a step, and the ref that its letter would have, as they were before the step
+-- the task that may send a letter at a step, the ref that its letter would have, and the one that the command
+-- acknowledges, as they were before the step
 abbrev pub IsSender : StepSender → Before → Type 0
-IsSender s b = (s.handle ≡ b.handle) × (s.next_ref ≡ b.next_ref)
+IsSender s b = (s.handle ≡ b.handle) × (s.next_ref ≡ b.next_ref) × (s.acknowledged ≡ b.acknowledged)
 
 -- the scene that a step has on a desk
 abbrev pub scene_at : Desk → Step → Scene

@@ -1,12 +1,11 @@
 //! What a command has changed, block by block.
 
-ghost use Rattle.std.specs.Prelude.{◌≡◌, ◌+◌, ◌==◌, ◌&&◌, ◌||◌, length, nat_le, nat_lt, not};
-ghost use Rattle.std.specs.List.{list_any};
+ghost use Rattle.std.specs.Prelude.{◌≡◌, ◌+◌, ◌==◌, ◌&&◌, length, nat_le, nat_lt};
 ghost use Rattle.std.specs.Option.{option_map};
-ghost use Rattle.rh_defs.specs.declared.question.BlockItem.{BlockItem};
 ghost use Rattle.rh_defs.specs.Desk.{Desk, Task};
-ghost use Rattle.rh_figure.specs.Figure.{is_drawn as is_drawn_in, is_recipient as is_recipient_of};
-ghost use Rattle.rh_figure.specs.Layout.{is_changed_block as is_changed_of, is_fresh_block as is_fresh_block_in};
+ghost use Rattle.rh_figure.specs.Figure.{is_drawn as is_drawn_in, is_put_in as is_put_in_slot};
+ghost use Rattle.rh_figure.specs.Figure.{is_recipient as is_recipient_of};
+ghost use Rattle.rh_figure.specs.Layout.{had_block as had_block_of, is_fresh_block as is_fresh_block_in};
 ghost use Rattle.rh_figure.specs.Layout.{is_fresh_flex as is_fresh_flex_in, is_put as is_put_of};
 ghost use Rattle.rh_figure.specs.Layout.{vacates};
 ghost use Rattle.rh_scene.specs.Seen.{handle_for, letter_seen};
@@ -19,34 +18,28 @@ use rh_defs::{Anchor, BlockItem, Handle, Ref};
 use rh_figure::HeapEffect;
 use rh_figure::limits::MOST_SLOTS;
 
-/// Whether the command has changed the flex block of a task: wrote to it, or none of that anchor and size was there
-/// before.
+/// Whether the command has changed the flex block of a task: wrote to it, or is about the task, and none of that anchor
+/// and size was there before.
 pub fn is_fresh_flex(step: &Step<'_>, handle: Handle, anchor: Anchor, size: u32) -> bool
     ensures { (d : Desk) → result ≡ is_fresh_flex_in (scene_at d step.now) handle anchor size }
 {
-    handle == step.marks.handle
-        && is_changed_block(step.marks.put, step.kept.blocks(), anchor, size)
+    is_put(step.marks.put, handle, anchor)
+        || handle == step.marks.handle && !had_block(step.kept.blocks(), anchor, size)
 }
 
-/// Whether the block was written to, or none of that anchor and size was there before.
-fn is_changed_block(put: Option<Anchor>, before: &[BlockItem], anchor: Anchor, size: u32) -> bool
-    ensures { result ≡ is_changed_of put before.now anchor size }
-{
-    is_put(put, anchor) || !had_block(before, anchor, size)
-}
-
-fn is_put(put: Option<Anchor>, anchor: Anchor) -> bool
-    ensures { result ≡ is_put_of anchor put }
+/// Whether the flex block of a task is the one that was written to.
+fn is_put(put: Option<(Handle, Anchor)>, handle: Handle, anchor: Anchor) -> bool
+    ensures { result ≡ is_put_of handle anchor put }
 {
     match put {
-        Some(written) => written == anchor,
+        Some((owner, written)) => owner == handle && written == anchor,
         None => false,
     }
 }
 
 /// Whether a block of that anchor and size was there.
 fn had_block(before: &[BlockItem], anchor: Anchor, size: u32) -> bool
-    ensures { result ≡ list_any (λ (b : BlockItem). b.anchor == anchor && b.size == size) before.now }
+    ensures { result ≡ had_block_of anchor size before.now }
 {
     before
         .iter()
@@ -113,7 +106,18 @@ pub fn is_drawn(step: &Step<'_>, tasks: usize, handle: Handle) -> bool
     tasks <= MOST_SLOTS
         || handle == step.marks.handle
         || handle == step.marks.heap.handle
+        || is_put_in(step.marks.put, handle)
         || is_recipient(&step.marks, handle)
+}
+
+/// Whether the flex block that was written to is the task's.
+fn is_put_in(put: Option<(Handle, Anchor)>, handle: Handle) -> bool
+    ensures { result ≡ is_put_in_slot handle put }
+{
+    match put {
+        Some((owner, _)) => owner == handle,
+        None => false,
+    }
 }
 
 /// Whether the letter that the command sent is for the task.

@@ -1,11 +1,12 @@
 //! What is kept of a desk before a command.
 
-ghost use Rattle.std.specs.Prelude.{◌≡◌, ◌≤◌, ◌<◌, ◌+◌, [], ◌++◌, IfNone, IfSome, length, map, slice_get, None, Some};
+ghost use Rattle.std.specs.Prelude.{◌≡◌, ◌≤◌, ◌<◌, ◌+◌, [], ◌++◌, if◌then◌else◌, ℕ, IfNone, IfSome, length, map};
+ghost use Rattle.std.specs.Prelude.{slice_get, None, Some};
 ghost use Rattle.std.specs.Option.{option_map};
 ghost use Rattle.rh_defs.specs.Desk.{Task};
 ghost use Rattle.rh_defs.specs.declared.sizes.TheConstants.{MAX_AREAS, MOST_MESSAGES};
 ghost use Rattle.rh_figure.specs.Changes.{item_with_anchor};
-ghost use Rattle.rh_figure.specs.Scene.{before_of, before_task, size_named as size_named_by};
+ghost use Rattle.rh_figure.specs.Scene.{acknowledged_by, before_of, before_task, size_named as size_named_by};
 ghost use Rattle.rh_figure.specs.Share.{count_of, holdings};
 ghost use Rattle.rh_scene.specs.SightMessages.{message_items};
 ghost use Rattle.rh_scene.specs.SightOwners.{holdings_of, shared_owner};
@@ -19,7 +20,7 @@ use crate::step_sender::StepSender;
 use crate::tasks::task_about;
 use arrayvec::ArrayVec;
 use rh_defs::sizes::{ANCHORS, FIXED_AREAS, MAX_AREAS};
-use rh_defs::{Anchor, BlockItem, Command, Handle, MessageItem, Ref};
+use rh_defs::{Anchor, BlockItem, Command, Handle, MessageItem, RawCommand, Ref};
 use std::marker::Model;
 
 /// Who has pages: an area by its number, or a slot by its task's handle.
@@ -46,14 +47,16 @@ impl Default for Holding {
     }
 }
 
-/// What is kept of a desk before a command: of the task that the command names its handle, blocks and the ref that it
-/// holds, 0 and none where it names no live one; the size of the heap's block that it names, 0 for none; all messages,
-/// the pages of each owner, the free ones, and the next ref.
+/// What is kept of a desk before a command: of the task that the command names its handle, blocks, the length of its C
+/// heap and the ref that it holds, 0 and none where it names no live one; the ref that it acknowledges and the size of
+/// the heap's block that it names, 0 for none; all messages, the pages of each owner, the free ones, and the next ref.
 #[derive(Drop)]
 pub struct Kept {
     handle: Handle,
     blocks: ArrayVec<BlockItem, ANCHORS>,
+    heap_end: u32,
     held: Ref,
+    acknowledged: Ref,
     size: u32,
     messages: Messages,
     holdings: ArrayVec<Holding, MAX_AREAS>,
@@ -70,7 +73,9 @@ impl Model for Kept {
     ghost view = { λ s. record {
       handle = s.handle;
       blocks = s.blocks.items;
+      heap_end = s.heap_end;
       held = s.held;
+      acknowledged = s.acknowledged;
       size = s.size;
       messages = s.messages.items;
       holdings = holdings_of s.holdings.items;
@@ -89,7 +94,9 @@ impl Kept {
         let mut kept = Kept {
             handle: Handle(0),
             blocks: ArrayVec::new(),
+            heap_end: 0,
             held: Ref(0),
+            acknowledged: Ref(0),
             size: 0,
             messages: copied(messages),
             holdings: ArrayVec::new(),
@@ -100,6 +107,7 @@ impl Kept {
         if let Some(i) = task_about(sight, command) {
             kept.keep_task(sight, i, messages);
         }
+        kept.acknowledged = acknowledged(command, kept.held);
         kept.size = size_named(sight, kept.handle, command);
         kept
     }
@@ -108,13 +116,14 @@ impl Kept {
     fn keep_task<S: Sight>(&mut self, sight: &S, i: usize, messages: &[MessageItem])
         requires task { i < length (S.desk sight.now).tasks }
         requires messages { messages.now ≡ message_items (S.desk sight.now) }
-        requires before { self.old ≡ before_task 0 (S.desk sight.now) None }
+        requires before { self.old ≡ before_task 0 0 (S.desk sight.now) None }
         ensures { (t : Task) → slice_get (S.desk sight.now).tasks i ≡ Some t → self.new
-            ≡ before_task 0 (S.desk sight.now) (Some t) }
+            ≡ before_task 0 0 (S.desk sight.now) (Some t) }
     {
         sight.recall_desk();
         if let Some(task) = sight.task(i) {
             self.handle = task.handle;
+            self.heap_end = task.heap_end;
             self.held = held_ref(messages, task.handle);
             sight.blocks(i, &mut self.blocks);
         }
@@ -134,7 +143,15 @@ impl Kept {
         StepSender {
             handle: self.handle,
             next_ref: self.next_ref,
+            acknowledged: self.acknowledged,
         }
+    }
+
+    /// The length of its C heap.
+    pub fn heap_end(&self) -> u32
+        ensures { result ≡ self.now.heap_end }
+    {
+        self.heap_end
     }
 
     /// The ref of the message that it held, 0 for none.
@@ -207,6 +224,27 @@ fn size_named<S: Sight>(sight: &S, handle: Handle, command: Option<&Command>) ->
             block_size(segment_seen(sight, Handle(0), *address))
         }
         _ => 0,
+    }
+}
+
+/// The ref of the message that a command acknowledges, by that of the one that its task holds.
+fn acknowledged(command: Option<&Command>, held: Ref) -> Ref
+    ensures { result ≡ acknowledged_by (option_map (λ c. c.now) command.entry) held }
+{
+    if is_acknowledgement(command) {
+        held
+    } else {
+        Ref(0)
+    }
+}
+
+/// Whether a command acknowledges the message that its task holds.
+pub(crate) fn is_acknowledgement(command: Option<&Command>) -> bool
+    ensures { (held : ℕ) → acknowledged_by (option_map (λ c. c.now) command.entry) held ≡ (if result then held else 0) }
+{
+    match command {
+        Some(Command::Raw(raw)) => matches!(raw, RawCommand::Ack { .. }),
+        _ => false,
     }
 }
 

@@ -10,6 +10,7 @@ mod pages;
 mod pieces;
 mod segments;
 mod sight;
+mod spots;
 mod step;
 mod step_sender;
 mod tasks;

@@ -1,10 +1,11 @@
 //! What a command did.
 
-ghost use Rattle.std.specs.Prelude.{◌≡◌, ℕ, Some};
+ghost use Rattle.std.specs.Prelude.{◌≡◌};
 ghost use Rattle.std.specs.Option.{option_map};
 ghost use Rattle.rh_defs.specs.Desk.{task_at};
 ghost use Rattle.rh_defs.specs.Commands.{is_refused};
-ghost use Rattle.rh_figure.specs.Scene.{Before, buffer_of as buffer_of_sent, effect_of as effect_of_command};
+ghost use Rattle.rh_defs.specs.declared.command.Command.TheVariants.{Raw};
+ghost use Rattle.rh_figure.specs.Scene.{Before, effect_of as effect_of_command};
 ghost use Rattle.rh_figure.specs.Scene.{heap_effect_of as heap_effect_of_command, heap_mark as heap_mark_of};
 ghost use Rattle.rh_figure.specs.Scene.{moved_effect as moved_effect_of};
 ghost use Rattle.rh_figure.specs.Scene.{is_question as is_question_of, is_still as is_still_of, marks_for};
@@ -16,9 +17,10 @@ ghost use Rattle.rh_scene.specs.Steps.{IsSender, block_seen, effect_seen, marks_
 
 use crate::kept::Kept;
 use crate::sight::Sight;
+use crate::spots::{flex_block_in, heap_block_in, spot_by, spot_of, spot_taken};
 use crate::step_sender::StepSender;
 use crate::tasks::task_with;
-use rh_defs::{Action, Anchor, Body, Bytes, Command, Handle, Letter, Name, Ref, Reply};
+use rh_defs::{Action, Anchor, Bytes, Command, Handle, Letter, Name, RawCommand, Ref, Reply};
 use rh_figure::HeapEffect;
 
 /// A block of a C heap: its task and its address, 0 and 0 for none.
@@ -29,7 +31,7 @@ pub struct HeapBlock {
 }
 
 /// No block.
-const NO_BLOCK: HeapBlock = HeapBlock {
+pub(crate) const NO_BLOCK: HeapBlock = HeapBlock {
     handle: Handle(0),
     address: 0,
 };
@@ -67,17 +69,33 @@ pub enum Effect<'a> {
         offset: u32,
         bytes: &'a Bytes,
     },
+    Stored {
+        name: &'a Name,
+        address: u32,
+        bytes: &'a Bytes,
+    },
+    Copied {
+        name: &'a Name,
+        size: u32,
+        address: u32,
+        to: Handle,
+        place: u32,
+    },
+    Acknowledged {
+        name: &'a Name,
+        my_ref: Ref,
+    },
 }
 
-/// What a command did: the task that it names, its effect, what became of a heap's block, the anchor of the block that
-/// it wrote to, the block of a C heap and that of the module area (0 for none) that it made or changed, the letter
-/// that was sent, and the message that was taken.
+/// What a command did: the task that it names, its effect, what became of a heap's block, the task and anchor of the
+/// flex block that it wrote to, the block of a C heap and that of the module area (0 for none) that it made or changed,
+/// the letter that was sent, and the message that was taken.
 #[derive(Clone, Copy)]
 pub struct Marks<'a> {
     pub handle: Handle,
     pub effect: Effect<'a>,
     pub heap_effect: HeapEffect,
-    pub put: Option<Anchor>,
+    pub put: Option<(Handle, Anchor)>,
     pub heap: HeapBlock,
     pub module_block: u32,
     pub sent: Option<(&'a Letter, Ref)>,
@@ -128,17 +146,20 @@ impl<'a> Marks<'a> {
     ) -> Marks<'a>
         ensures { marks_seen result ≡ marks_for (S.desk sight.now) kept.now command.now reply.now }
     {
+        let handle = kept.handle();
         let sent = sent_by(sight, kept.sender());
-        let other = heap_mark(kept.handle(), command, reply);
-        let heap = match sent {
-            Some((letter, _)) => buffer_in(letter, other),
-            None => other,
+        let sent_to = match sent {
+            Some((letter, _)) => spot_of(letter),
+            None => None,
         };
+        let spot = spot_by(handle, command, spot_taken(taken_mark(reply), sent_to));
+        let put = put_mark(handle, command, flex_block_in(sight, &spot));
+        let heap = heap_mark(handle, command, reply, heap_block_in(sight, &spot));
         Marks {
-            handle: kept.handle(),
+            handle,
             effect: effect_of(command, reply),
-            heap_effect: heap_effect_of(kept.handle(), command, reply),
-            put: put_mark(command),
+            heap_effect: heap_effect_of(handle, command, reply),
+            put,
             heap,
             module_block: module_mark(command, reply),
             sent,
@@ -184,33 +205,16 @@ pub fn sent_by<'a, S: Sight>(sight: &'a S, sender: StepSender) -> Option<(&'a Le
     }
 }
 
-/// The block of a C heap that a letter's bytes go into, else another one.
-fn buffer_in(letter: &Letter, other: HeapBlock) -> HeapBlock
-    ensures { (ref : ℕ) → block_seen result ≡ buffer_of_sent (Some (letter.now, ref)) (block_seen other) }
-{
-    match &letter.body {
-        Body::RamFetch { buffer, .. } => HeapBlock {
-            handle: letter.from,
-            address: *buffer,
-        },
-        Body::RamTransmit { buffer, written } if *written > 0 => HeapBlock {
-            handle: letter.to,
-            address: *buffer,
-        },
-        _ => other,
-    }
-}
-
-/// The block of the task's C heap that a command made or changed.
-fn heap_mark(handle: Handle, command: &Command, reply: &Reply) -> HeapBlock
-    ensures { block_seen result ≡ heap_mark_of handle command.now reply.now }
+/// The block of the task's C heap that a command made or changed, else another one.
+fn heap_mark(handle: Handle, command: &Command, reply: &Reply, other: HeapBlock) -> HeapBlock
+    ensures { block_seen result ≡ heap_mark_of handle command.now reply.now (block_seen other) }
 {
     match (command, reply) {
         (Command::Claim { .. } | Command::Resize { .. }, Reply::Block { address }) => HeapBlock {
             handle,
             address: *address,
         },
-        _ => NO_BLOCK,
+        _ => other,
     }
 }
 
@@ -225,13 +229,17 @@ fn module_mark(command: &Command, reply: &Reply) -> u32
     }
 }
 
-/// The anchor of the block that a command wrote to.
-fn put_mark(command: &Command) -> Option<Anchor>
-    ensures { result ≡ put_mark_of command.now }
+/// The flex block of the task that a command put bytes into by its anchor, else another one.
+fn put_mark(
+    handle: Handle,
+    command: &Command,
+    other: Option<(Handle, Anchor)>,
+) -> Option<(Handle, Anchor)>
+    ensures { result ≡ put_mark_of handle command.now other }
 {
     match command {
-        Command::Put { anchor, .. } => Some(*anchor),
-        _ => None,
+        Command::Put { anchor, .. } => Some((handle, *anchor)),
+        _ => other,
     }
 }
 
@@ -258,9 +266,8 @@ fn effect_of<'a>(command: &'a Command, reply: &Reply) -> Effect<'a>
             most: *most,
         },
         (Command::Remove { number }, _) => Effect::Removed(*number),
-        (Command::CancelIn { name, .. } | Command::CancelOut { name, .. }, _) => Effect::GivenUp(
-            name,
-        ),
+        (Command::CancelIn { name, .. }, _) => Effect::GivenUp(name),
+        (Command::CancelOut { name, .. }, _) => Effect::GivenUp(name),
         (
             Command::Put {
                 anchor,
@@ -273,6 +280,48 @@ fn effect_of<'a>(command: &'a Command, reply: &Reply) -> Effect<'a>
             anchor: *anchor,
             offset: *offset,
             bytes,
+        },
+        (Command::Raw(command), _) => raw_effect(command, reply),
+        _ => Effect::None,
+    }
+}
+
+/// What a command of a task with code of its own did that nothing in the desk behind it tells.
+fn raw_effect<'a>(command: &'a RawCommand, reply: &Reply) -> Effect<'a>
+    ensures { effect_seen result ≡ effect_of_command (Raw command.now) reply.now }
+{
+    match (command, reply) {
+        (
+            RawCommand::Write {
+                name,
+                address,
+                bytes,
+            },
+            _,
+        ) => Effect::Stored {
+            name,
+            address: *address,
+            bytes,
+        },
+        (
+            RawCommand::Transfer {
+                name,
+                address,
+                to,
+                place,
+                size,
+            },
+            _,
+        ) => Effect::Copied {
+            name,
+            size: *size,
+            address: *address,
+            to: *to,
+            place: *place,
+        },
+        (RawCommand::Ack { name }, Reply::Answering(my_ref)) => Effect::Acknowledged {
+            name,
+            my_ref: *my_ref,
         },
         _ => Effect::None,
     }

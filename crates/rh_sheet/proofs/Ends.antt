@@ -8,10 +8,9 @@ use Rattle.std.specs.Prelude.{◌==◌, nat_lt, not, ◌||◌, ◌&&◌, if◌th
 use Rattle.std.specs.List.{flat_map, range_with_len}
 use Rattle.std.specs.Fmt.{decimal}
 use Rattle.rh_defs.specs.Desk.{Task, module_pages, module_area}
-use Rattle.rh_defs.specs.Commands.{step}
 use Rattle.rh_defs.specs.Text.{state_name}
 use Rattle.rh_figure.specs.Phrases.{Text, where_so, pages_text, area_name}
-use Rattle.rh_figure.specs.Scene.{Scene, before_of}
+use Rattle.rh_figure.specs.Scene.{Scene}
 use Rattle.rh_figure.specs.Share.{Share}
 use Rattle.rh_figure.specs.Map.{Read, Stage}
 use Rattle.rh_figure.specs.Figure.{Panel, Letterbox, Side, Transfer, area_panels, is_drawn, slot_note, letterboxes, transfers}
@@ -266,8 +265,7 @@ happens marked x r line h around = happened
 pub line-ends : (marked : Bool) (s : Share) (x : Sheet.Walk) (r : Read) (around : List Text)
     → Same (read_on (between x.opened around) (Sheet.read_text marked s x r)) (between (Sheet.behind_read marked s x r).opened around)
 line-ends marked s x (line, Ok None) around = skipped (Sheet.is_shown_remark marked x line) x.opened (x.shown + 1) line around
-line-ends marked s x (line, Ok (Some c)) around = happens
-    marked x (line, Ok (Some c)) line (Sheet.command_happened s c (before_of x.place.desk (Some c)) (step x.place.desk c)) around
+line-ends marked s x (line, Ok (Some c)) around = happens marked x (line, Ok (Some c)) line (Sheet.command_on s c x.place.desk) around
 line-ends marked s x (line, Err fault) around =
     happens marked x (line, Err fault) line (Sheet.fault_happened s fault x.place.desk) around
 

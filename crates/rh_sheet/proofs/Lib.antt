@@ -1,7 +1,7 @@
 mod Escapes
 mod Inside
 mod Slides
-mod Alike
+pub mod Alike
 mod Worked
 mod Reading
 mod Elements

@@ -5,9 +5,8 @@ use Rattle.std.proofs.Common.{◌≡◌, ℕ, ◌+◌, Bool, true, false, eqb, r
 use Rattle.std.proofs.lemmas.List.{append_assoc}
 use Rattle.std.specs.Prelude.{◌==◌, not, ◌||◌, ◌&&◌, if◌then◌else◌, codes}
 use Rattle.std.specs.Fmt.{decimal}
-use Rattle.rh_defs.specs.Commands.{step}
 use Rattle.rh_figure.specs.Phrases.{Text, where_so}
-use Rattle.rh_figure.specs.Scene.{Scene, before_of}
+use Rattle.rh_figure.specs.Scene.{Scene}
 use Rattle.rh_figure.specs.Map.{Stage, place, is_mark}
 use Rattle.rh_sheet.specs.Markup.{escape, escaped_byte}
 use Rattle.rh_sheet.specs.Fates.{Note, noted}
@@ -207,7 +206,7 @@ lines-alike marked x (((line, Ok (Some c)), s) ∷ lines) (b ∷ others) is =
     to (between x.opened outer) _ (Sheet.sheet_lines marked x (((b.0.0, Ok (Some c)), s) ∷ others)) _
     (ap₂ (λ m s. Sheet.sheet_lines marked x (((b.0.0, m), s) ∷ others)) is.0.meaning is.0.share)
     (behind (between x.opened outer) _ _ _ _ _ (line-ends marked s x (line, Ok (Some c)) outer)
-    (happens-alike marked x line b.0.0 (Sheet.command_happened s c (before_of x.place.desk (Some c)) (step x.place.desk c)) outer)
+    (happens-alike marked x line b.0.0 (Sheet.command_on s c x.place.desk) outer)
     (lines-alike marked (Sheet.behind_read marked s x (line, Ok (Some c))) lines others is.1))
 lines-alike marked x (((line, Err fault), s) ∷ lines) (b ∷ others) is =
     to (between x.opened outer) _ (Sheet.sheet_lines marked x (((b.0.0, Err fault), s) ∷ others)) _

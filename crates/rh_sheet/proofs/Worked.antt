@@ -3,10 +3,14 @@
 use Rattle.std.specs.Prelude.{◌≡◌, refl, ℕ, ◌==◌, if◌then◌else◌, List, [], ◌∷◌, ◌++◌, codes, false}
 use Rattle.std.specs.List.{concat, flat_map, range_with_len}
 use Rattle.hex.proofs.OnLiterals.{hex_on_literals}
+use Rattle.rh_defs.specs.declared.command.Command.TheVariants as command
 use Rattle.rh_defs.specs.Line.{line_means}
+use Rattle.rh_defs.specs.Desk.{Desk}
+use Rattle.rh_defs.specs.Runs.{start}
+use Rattle.rh_defs.specs.Script.{lines_desk}
 use Rattle.rh_figure.specs.Share.{Owner, AreaOf, SlotOf, Share}
 use Rattle.rh_figure.specs.Map.{Stage, map_start}
-use Rattle.rh_sheet.specs.Sheet.{sheet_lines}
+use Rattle.rh_sheet.specs.Sheet.{command_on, sheet_lines}
 use Rattle.rh_sheet.specs.WellFormed.{Words, Lost, read_on}
 use Rattle.rh_sheet.specs.TextLaws.{markup, AreRetold}
 use Rattle.rh_sheet.specs.Inner.ComputingSheets.{computing_sheet}
@@ -173,6 +177,15 @@ pub worked_sheet :
     ≡ text_of (first_step ++ module_part ++ second_step ++ module_part ++ rest_of_sheet)
 unfolding computing_sheet hex_on_literals
 worked_sheet = refl
+
+-- a desk on which a message waits for a task with code of its own
+abbrev handing : Desk
+handing = lines_desk (start 8 []) (codes "task a 1 raw" ∷ codes "task b 1 raw" ∷ codes "send a 17 2 0 1296 48690000" ∷ [])
+
+-- the reply to its poll has the message's data behind it
+handed_out : (command_on (shared 5 []) (command.Poll (codes "b")) handing).reply ≡ codes "ok 17 1296 1 0 taken\n  from 1 48690000\n"
+unfolding computing_sheet hex_on_literals
+handed_out = refl
 
 -- ---- what a reader makes of small documents
 

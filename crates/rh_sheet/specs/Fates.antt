@@ -2,13 +2,13 @@
 -- x is the scene behind a step, n a note of a message, step the number of a step's line, w where a message is behind a step,
 -- sent the letter of the step with its ref. `-` of naturals stops at 0: of a short list all notes are the last ones
 -- (*last_of*).
-use Rattle.std.specs.Prelude.{ℕ, ◌-◌, ◌==◌, ◌&&◌, not, Bool, true, false, if◌then◌else◌, List, [], ◌∷◌, ◌++◌, length, drop, map, find, Option, Some, None, is_some}
-use Rattle.std.specs.List.{list_any}
+use Rattle.std.specs.Prelude.{ℕ, ◌-◌, ◌==◌, ◌&&◌, not, Bool, true, false, if◌then◌else◌, List, [], ◌∷◌, ◌++◌, length, drop, map, find, Option, Some, None}
+use Rattle.std.specs.Prelude.{is_some}
 use Rattle.rh_defs.specs.declared.message.Letter.{Letter}
 use Rattle.rh_defs.specs.Messages.{Parcel, action_of, code_number, is_recorded}
-use Rattle.rh_defs.specs.Post.{Seat, answers_held}
 use Rattle.rh_defs.specs.Desk.{task_at}
 use Rattle.rh_figure.specs.Scene.{Scene, sent_by, waiting}
+use Rattle.rh_figure.specs.Changes.{is_held}
 pub use Rattle.rh_sheet.specs.declared.note.Note.{Note}
 pub use Rattle.rh_sheet.specs.declared.note.Fate.{Fate}
 pub use Rattle.rh_sheet.specs.declared.note.Fate.TheVariants.{Queued, Taken, Held, Answered, Back, Returned, Vanished}
@@ -38,14 +38,10 @@ code_or_none (Some p) = code_number p.code
 abbrev pub waiting_code : Scene → ℕ → ℕ
 waiting_code x ref = code_or_none (find (λ (p : Parcel). p.message.my_ref == ref) (waiting x))
 
--- whether a task holds the message with the ref
-abbrev pub is_held : Scene → ℕ → Bool
-is_held x ref = list_any (λ (s : Seat). answers_held ref s.holds) x.desk.post.seats
-
--- the ref that the letter answers, 0 for none
-abbrev pub answered_by : Option (Letter × ℕ) → ℕ
-answered_by None = 0
-answered_by (Some sent) = sent.0.your_ref
+-- the ref that the letter answers, or without one that the command acknowledges: 0 for none
+abbrev pub answered_by : ℕ → Option (Letter × ℕ) → ℕ
+answered_by acknowledged None = acknowledged
+answered_by acknowledged (Some sent) = sent.0.your_ref
 
 -- the task that takes a message next, where nobody answers it: its recipient, or who sent it
 abbrev pub next_taker : Note → ℕ
@@ -55,7 +51,7 @@ abbrev pub whereabouts : Scene → Option (Letter × ℕ) → Note → Whereabou
 whereabouts x sent n = record {
   code = waiting_code x n.my_ref;
   held = is_held x n.my_ref;
-  answered = n.my_ref == answered_by sent;
+  answered = n.my_ref == answered_by x.before.acknowledged sent;
   live = is_some (task_at (next_taker n) x.desk);
 }
 

@@ -10,7 +10,8 @@ use Rattle.rh_defs.specs.declared.fault.LineFault.{LineFault}
 use Rattle.rh_defs.specs.Line.{words_of}
 use Rattle.rh_defs.specs.Desk.{Desk}
 use Rattle.rh_defs.specs.Commands.{step}
-use Rattle.rh_defs.specs.Text.{reply_text, fault_text}
+use Rattle.rh_defs.specs.Text.{fault_text}
+use Rattle.rh_defs.specs.Script.{meaning_text}
 use Rattle.rh_figure.specs.Share.{Share}
 use Rattle.rh_figure.specs.Scene.{Scene, Before, before_of, marks_of, is_still, scene_of}
 use Rattle.rh_figure.specs.Phrases.{Text, where_so}
@@ -92,12 +93,17 @@ pub record Happened : Type 0 where
   pub reply : Text
   pub still : Bool
 
-abbrev pub command_happened : Share → Command → Before → Desk × Reply → Happened
-command_happened s c b after = record {
+-- a command with all that `run` answers to it, and the desk after it with its reply
+abbrev pub command_happened : Share → Command → Text → Before → Desk × Reply → Happened
+command_happened s c said b after = record {
   scene = scene_of after.0 s b (marks_of after.0 b (Some c) after.1);
-  reply = reply_text after.0 c after.1;
+  reply = said;
   still = is_still (Some c) after.1;
 }
+
+-- what a line with a command does on a desk
+abbrev pub command_on : Share → Command → Desk → Happened
+command_on s c d = command_happened s c (meaning_text d (Ok (Some c))) (before_of d (Some c)) (step d c)
 
 abbrev pub fault_happened : Share → LineFault → Desk → Happened
 fault_happened s fault d = record {
@@ -148,15 +154,14 @@ behind_skipped marked x r =
 -- what is written of a line with its meaning, where the pool is shared out so behind it
 abbrev pub read_text : Bool → Share → Walk → Read → Text
 read_text marked s x (line, Ok None) = skipped_text marked x line
-read_text marked s x (line, Ok (Some c)) = happened_text
-    marked x line (command_happened s c (before_of x.place.desk (Some c)) (step x.place.desk c))
+read_text marked s x (line, Ok (Some c)) = happened_text marked x line (command_on s c x.place.desk)
 read_text marked s x (line, Err fault) = happened_text marked x line (fault_happened s fault x.place.desk)
 
 -- where the sheet stands behind it
 abbrev pub behind_read : Bool → Share → Walk → Read → Walk
 behind_read marked s x (line, Ok None) = behind_skipped marked x (line, Ok None)
-behind_read marked s x (line, Ok (Some c)) = behind_happened
-    marked x (line, Ok (Some c)) (command_happened s c (before_of x.place.desk (Some c)) (step x.place.desk c))
+behind_read marked s x (line, Ok (Some c)) =
+    behind_happened marked x (line, Ok (Some c)) (command_on s c x.place.desk)
 behind_read marked s x (line, Err fault) =
     behind_happened marked x (line, Err fault) (fault_happened s fault x.place.desk)
 

@@ -74,7 +74,8 @@ impl<D: Drawn> Mapper<D> {
         print_remark(line, pen);
     }
 
-    /// Does the command of a line, and shows the step where it is to be shown.
+    /// Does the command of a line, and shows the step where it is to be shown. A bad line needs no stack for this.
+    #[inline(never)]
     fn carry_out<P: Pen>(&mut self, line: &[u8], command: &Command, pen: &mut P)
         requires in_range { IsTrue (in_range command.now) }
         requires room { self.old.lines + 1 < 2 ^ 32 }

@@ -1,9 +1,8 @@
 //! What is kept of the last messages, step by step.
 
 ghost use Rattle.std.specs.Prelude.{◌≡◌, ◌≤◌, ◌∷◌, ◌++◌, [], is_some, length, map};
-ghost use Rattle.std.specs.List.{list_any};
 ghost use Rattle.rh_defs.specs.Desk.{task_at};
-ghost use Rattle.rh_pictures.specs.Inner.Notes.{code_among, holds_as, seen_among};
+ghost use Rattle.rh_pictures.specs.Inner.Notes.{code_among, seen_among};
 ghost use Rattle.rh_figure.specs.Scene.{Before, Marks, scene_of, sent_by as sent_by_task};
 ghost use Rattle.rh_figure.specs.Share.{Share};
 ghost use Rattle.rh_sheet.specs.Fates.{answered_by, followed as note_after, last_of, next_taker as taker_of};
@@ -13,6 +12,7 @@ ghost use Rattle.rh_scene.specs.SightMessages.{message_items};
 ghost use Rattle.rh_scene.specs.Seen.{letter_seen};
 ghost use Rattle.rh_scene.specs.Steps.{IsSender};
 
+use crate::walks::taken_changes::holds_ref;
 use arrayvec::ArrayVec;
 use rh_defs::{EventCode, Handle, Letter, MessageItem, Ref};
 use rh_elements::{followed, is_queued};
@@ -42,19 +42,20 @@ pub fn note_step<S: Sight>(
     }
 }
 
-/// The ref that the letter of a step answers, by who may have sent one: 0 for none.
+/// The ref that the letter of a step answers, by who may have sent one, or without one that the command acknowledges: 0
+/// for none.
 fn answered_at<S: Sight>(sight: &S, sender: &StepSender) -> Ref
     ensures { (b : Before) → IsSender sender.now b → result
-        ≡ answered_by (sent_by_task b (task_at b.handle (S.desk sight.now))) }
+        ≡ answered_by b.acknowledged (sent_by_task b (task_at b.handle (S.desk sight.now))) }
 {
     match sent_by(sight, *sender) {
         Some((letter, _)) => letter.your_ref,
-        None => Ref(0),
+        None => sender.acknowledged,
     }
 }
 
-/// Notes what has become of each of the last messages at a step whose letter answers one. The list of those that are
-/// live is made only where one is noted.
+/// Notes what has become of each of the last messages at a step that answers or acknowledges one. The list of those
+/// that are live is made only where one is noted.
 fn follow_messages<S: Sight>(
     sight: &S,
     number: u32,
@@ -102,7 +103,7 @@ fn whereabouts<S: Sight>(
     let my_ref = Ref(note.my_ref);
     Whereabouts {
         code: waiting_code(messages, my_ref),
-        held: is_held(messages, my_ref),
+        held: holds_ref(messages, my_ref),
         answered: my_ref == answered,
         live: is_live(sight, next_taker(note)),
     }
@@ -124,15 +125,6 @@ fn is_live<S: Sight>(sight: &S, handle: Handle) -> bool
     ensures { result ≡ is_some (task_at handle (S.desk sight.now)) }
 {
     task_with(sight, handle).is_some()
-}
-
-/// Whether a task holds the message with the ref.
-fn is_held(messages: &[MessageItem], my_ref: Ref) -> bool
-    ensures { result ≡ list_any (holds_as my_ref) messages.now }
-{
-    messages
-        .iter()
-        .any(|message| message.held && message.my_ref == my_ref)
 }
 
 /// The event code of the message with the ref that waits, 0 where none does.

@@ -120,7 +120,8 @@ impl<D: Drawn> Painter<D> {
         self.progress.is_shown(self.marked, self.progress.wanted())
     }
 
-    /// Does the command of a line, and shows the step where it is to be shown.
+    /// Does the command of a line, and shows the step where it is to be shown. A bad line needs no stack for this.
+    #[inline(never)]
     fn carry_out<P: Pen>(&mut self, line: &[u8], command: &Command, pen: &mut P)
         requires in_range { IsTrue (in_range command.now) }
         requires room { self.old.progress.lines + 1 < 2 ^ 32 }
@@ -154,7 +155,7 @@ impl<D: Drawn> Painter<D> {
             → DrewLine D.desk self.old o line (Ok (Some command.now)) self.new o }
         ensures lines { self.new.progress.lines ≡ self.old.progress.lines + 1 }
     {
-        let sender = StepSender::new(&self.drawn, Some(command));
+        let sender = StepSender::new(&self.drawn, Some(command), &mut self.messages);
         change(&mut self.drawn, command);
         self.leave_out(sender);
     }
@@ -180,7 +181,7 @@ impl<D: Drawn> Painter<D> {
     {
         self.has_bad_line = true;
         if !self.shows_next() {
-            let sender = StepSender::new(&self.drawn, None);
+            let sender = StepSender::new(&self.drawn, None, &mut self.messages);
             self.leave_out(sender);
             return;
         }

@@ -9,15 +9,15 @@ ghost use Rattle.rh_pictures.specs.Returns.{returns};
 ghost use Rattle.rh_pictures.specs.Inner.ReturnLines.{return_lines, vanish_lines};
 ghost use Rattle.rh_figure.specs.Changes.{bouncing, bounced_text, bytes_sent_text, has_vanished as has_vanished_in};
 ghost use Rattle.rh_figure.specs.Changes.{answers_ref, is_live as is_live_in, name_before};
-ghost use Rattle.rh_figure.specs.Changes.{is_taken as is_taken_ref};
+ghost use Rattle.rh_figure.specs.Changes.{is_acknowledged as is_acknowledged_ref, is_taken as is_taken_ref};
 ghost use Rattle.rh_figure.specs.Changes.{post_changes, returns_text, sent_text, taken_text, vanished_text};
-ghost use Rattle.rh_figure.specs.Changes.{vanishes_text, was_out as was_out_before};
+ghost use Rattle.rh_figure.specs.Changes.{vanishes_text, was_out as was_out_before, where_taken};
 ghost use Rattle.rh_figure.specs.Phrases.{is_returned as is_returned_as};
 ghost use Rattle.rh_figure.specs.Scene.{Before, Marks, scene_of};
 ghost use Rattle.rh_figure.specs.Share.{Share};
 ghost use Rattle.rh_map.specs.MapTasks.{who_text};
 ghost use Rattle.rh_scene.specs.Seen.{letter_seen};
-ghost use Rattle.rh_scene.specs.Steps.{IsStepOf, scene_at};
+ghost use Rattle.rh_scene.specs.Steps.{IsStepOf, effect_seen, scene_at};
 
 use crate::artist::Artist;
 use crate::who::who_of;
@@ -46,7 +46,7 @@ pub fn show_post_changes<S: Sight, A: Artist, P: Pen>(
     show_taken(sight, step, artist, pen);
     show_vanished(sight, step, artist, pen);
     if let Some((letter, my_ref)) = step.marks.sent {
-        show_sent(sight, letter, my_ref, artist, pen);
+        show_sent(sight, step, letter, my_ref, artist, pen);
     }
 }
 
@@ -210,7 +210,7 @@ fn show_if_vanished<S: Sight, A: Artist, P: Pen>(
     );
 }
 
-/// Whether a message that was there before the command is gone, and nobody took or answered it.
+/// Whether a message that was there before the command is gone, and nobody took, answered or acknowledged it.
 fn has_vanished<S: Sight>(sight: &S, step: &Step<'_>, message: &MessageItem) -> bool
     requires { IsStepOf (S.desk sight.now) step.now }
     ensures { result ≡ has_vanished_in (scene_at (S.desk sight.now) step.now) message.now }
@@ -218,6 +218,7 @@ fn has_vanished<S: Sight>(sight: &S, step: &Step<'_>, message: &MessageItem) -> 
     !is_live(sight, step, message.my_ref)
         && !is_taken(step, message.my_ref)
         && !is_answered(step, message.my_ref)
+        && !is_acknowledged(step, message.my_ref)
 }
 
 /// Whether a message with the ref waits or is held behind the command.
@@ -256,6 +257,19 @@ fn is_answered(step: &Step<'_>, my_ref: Ref) -> bool
     }
 }
 
+/// Whether the command acknowledged the message with the ref.
+fn is_acknowledged(step: &Step<'_>, my_ref: Ref) -> bool
+    ensures { result ≡ is_acknowledged_ref my_ref (effect_seen step.now.marks.effect) }
+{
+    match step.marks.effect {
+        Effect::Acknowledged {
+            my_ref: acknowledged,
+            ..
+        } => acknowledged == my_ref,
+        _ => false,
+    }
+}
+
 /// The task with the handle, by its name where it lived before the command that ended it, or lives.
 fn who_before<'a, S: Sight>(sight: &'a S, step: &Step<'a>, handle: Handle) -> Who<'a>
     ensures { let x = scene_at (S.desk sight.now) step.now in who_text result ≡ name_before x handle x.marks.effect }
@@ -269,18 +283,37 @@ fn who_before<'a, S: Sight>(sight: &'a S, step: &Step<'a>, handle: Handle) -> Wh
 /// Shows which letter was sent, and how many bytes before it.
 fn show_sent<S: Sight, A: Artist, P: Pen>(
     sight: &S,
+    step: &Step<'_>,
     letter: &Letter,
     my_ref: Ref,
     artist: &A,
     pen: &mut P,
 )
-    ensures { (s : Share) (b : Before) (m : Marks) → P.offered pen.new ≡ P.offered pen.old
-        ++ flat_map A.change_text (sent_text (scene_of (S.desk sight.now) s b m) (Some (letter.now, my_ref))) }
+    ensures { P.offered pen.new ≡ P.offered pen.old
+        ++ flat_map A.change_text (sent_text (scene_at (S.desk sight.now) step.now) (Some (letter.now, my_ref))) }
 {
-    show_bytes(sight, letter, artist, pen);
+    show_taken_bytes(sight, step, letter, artist, pen);
     let from = who_of(sight, letter.from);
     let to = who_of(sight, letter.to);
     artist.change(&task_sends(&from, letter.body.action(), my_ref, &to), pen);
+}
+
+/// Shows how many bytes a letter took with it, if it was sent at a poll which took a message.
+fn show_taken_bytes<S: Sight, A: Artist, P: Pen>(
+    sight: &S,
+    step: &Step<'_>,
+    letter: &Letter,
+    artist: &A,
+    pen: &mut P,
+)
+    ensures { let x = scene_at (S.desk sight.now) step.now in
+        P.offered pen.new ≡ P.offered pen.old
+        ++ flat_map A.change_text (where_taken x.marks.taken (bytes_sent_text x letter.now letter.now.body)) }
+{
+    match step.marks.taken {
+        Some(_) => show_bytes(sight, letter, artist, pen),
+        None => {}
+    }
 }
 
 /// Shows how many bytes a letter took with it, if it says so.

@@ -1,7 +1,8 @@
-use Rattle.rh_pictures.proofs.Common.{List, ℕ, refl, subst, sym, IsTrue, Command, Reply, Desk, Nothing, IsReordered, step, first_line, reply_to, Excerpts}
+use Rattle.rh_pictures.proofs.Common.{List, ℕ, refl, subst, sym, IsTrue, Command, Reply, Desk, IsReordered, step, reply_to, Excerpts}
 use Rattle.rh_defs.specs.declared.reply.Reply.TheVariants.{Done}
 use Rattle.rh_defs.specs.Range.{in_range}
-use Rattle.rh_defs.proofs.QuestionLaws.{asked-stays, one-line, question-text}
+use Rattle.rh_defs.proofs.QuestionLaws.{asked-stays, question-text}
+use Rattle.rh_session.proofs.RunLemmas.{command_text}
 use Rattle.rh_pictures.specs.Deeds.{IsLikeReply}
 use Rattle.rh_map.specs.Replies.{front_of}
 use Rattle.rh_pictures.proofs.deeds.answer.Goals as goal
@@ -45,9 +46,8 @@ returns-clause-reply g c =
 pub returns-clause-excerpt : goal.returns-clause-excerpt
 returns-clause-excerpt g c =
     let d = g.D.Sight.desk c.args.drawn.now in
-    let front = front_of c.excerpt_reply-count.new.front in
-    let count = c.excerpt_reply-count.result in
-    let P : Reply → Type 0 = λ z. Excerpts front count (first_line z Nothing) in
-    let Q : List ℕ → Type 0 = λ z. Excerpts front count z in
-    subst Q (sym (one-line (step d c.args.command.now).0 c.args.command.now (step d c.args.command.now).1 c.in_default.not-Ask))
-    (subst P (c.apply-reply.ensures.reply d (g.met.D.Drawn.seen c.args.drawn.now)) c.excerpt_reply-count.ensures)
+    let seen = g.met.D.Drawn.seen c.args.drawn.now in
+    let said = command_text d c.args.command.now c.apply-reply.result c.handed-handed.result c.in_default.not-Ask
+    (c.apply-reply.ensures.reply d seen) (c.handed-handed.ensures d seen) in
+    let Q : List ℕ → Type 0 = λ z. Excerpts (front_of c.excerpt_reply-count.new.front) c.excerpt_reply-count.result z in
+    subst Q said c.excerpt_reply-count.ensures

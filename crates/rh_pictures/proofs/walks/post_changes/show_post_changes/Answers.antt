@@ -26,7 +26,7 @@ returns-in-Some g c =
     let offered = g.P.Pen.offered in
     let element = g.A.Artist.change_text in
     let sent = offered_as _ (ap (λ o. flat_map element (sent_text x (option_map letter_seen o))) (sym c.in-Some.is))
-    (c.show_sent.ensures x.share x.before x.marks) in
+    c.show_sent.ensures in
     offered_as _ (whole element x x.marks.sent)
     (text_then (offered c.args.pen.now) _ _ c.show_bounced.ensures
     (text_then (offered c.show_bounced.new.pen) _ _ c.show_taken.ensures

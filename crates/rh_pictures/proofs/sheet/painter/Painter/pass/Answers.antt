@@ -6,7 +6,7 @@ pub returns-clause-left : goal.returns-clause-left
 returns-clause-left g c = λ o line.
     let desk = g.D.Sight.desk in
     let m = c.args.self.now in
-    let b = record m { drawn = c.change.new.drawn } in
+    let b = record m { drawn = c.change.new.drawn; messages = c.new-sender.new.messages } in
     let command = c.args.command.now in
     let reply = (step (desk m.drawn) command).1 in
     took-command desk m b c.leave_out.new.self o o line (record { marked = refl; progress = refl; notes = refl }) command reply _

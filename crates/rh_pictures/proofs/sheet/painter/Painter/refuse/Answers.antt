@@ -7,7 +7,7 @@ pub returns-then-not-shows_next-clause-drew : goal.returns-then-not-shows_next-c
 returns-then-not-shows_next-clause-drew g c =
     let desk = g.D.Sight.desk in
     let m = c.args.self.now in
-    let b = record m { has_bad_line = true } in
+    let b = record m { has_bad_line = true; messages = c.new-sender.new.messages } in
     let o = g.P.Pen.offered c.args.pen.now in
     let line = c.args.line.now in
     took-fault desk m b c.leave_out.new.self o o line (record { marked = refl; progress = refl; notes = refl }) c.args.fault.now _ refl refl refl
