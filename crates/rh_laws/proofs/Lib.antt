@@ -85,6 +85,7 @@ pub mod ShownRows
 pub mod PartnerLaws
 pub mod MovedLaws
 pub mod RawLawRows
+pub mod RawVariantRows
 pub mod FileSteps
 pub mod LiveMail
 pub mod ScrapRefs
