@@ -34,9 +34,11 @@ pub use figures::{print_described, print_figure_end, print_figure_open};
 pub use frames::{band_height, foot, height, page_in, row_of, row_y, shown_rows, top};
 pub use lenses::{print_lens, print_lens_above, print_lens_below, print_tick};
 pub use links::{add_step_link, print_numbered_link};
-pub use markup::{print_change, print_heading, print_path};
+pub use markup::{add_point, print_change, print_heading, print_path};
 pub use notes::{followed, is_queued, place_among};
-pub use pieces::{fitting, high_in, low_in, print_piece, print_pieces};
+pub use pieces::{
+    add_tip, classes_of, fitting, high_in, kind_class, low_in, print_piece, print_pieces,
+};
 pub use pool::{print_grid, print_pool_side, print_squares, print_tags};
 pub use remarks::print_remark;
 pub use rows::{Plot, print_row, print_rows};

@@ -24,7 +24,7 @@ pub fn print_path<P: Pen>(class: &[u8], way: &Row, pen: &mut P)
 }
 
 /// Adds a step of a way: its letter and a point.
-pub(crate) fn add_point(row: &mut Row, letter: &[u8], x: u32, y: u32)
+pub fn add_point(row: &mut Row, letter: &[u8], x: u32, y: u32)
     requires { length row.old + length letter.now + 23 ≤ ROW }
     ensures value { row.new ≡ row.old ++ point_text letter.now x y }
     ensures few { length row.new ≤ length row.old + length letter.now + 23 }

@@ -31,7 +31,7 @@ use rh_sheet::sizes::{
 // ---- words
 
 /// The class of a kind of piece.
-fn kind_class(kind: Kind) -> &'static [u8]
+pub fn kind_class(kind: Kind) -> &'static [u8]
     ensures value { result.now ≡ class_of_kind kind }
     ensures few { length result.now ≤ 7 }
 {
@@ -137,7 +137,7 @@ fn named(what: &[u8], number: u32) -> Row
 }
 
 /// Adds what is told of a piece of so many bytes at an address.
-fn add_tip(row: &mut Row, kind: Kind, address: u32, size: u32)
+pub fn add_tip(row: &mut Row, kind: Kind, address: u32, size: u32)
     requires small { address < 2 ^ 31 }
     requires room { length row.old + 55 ≤ ROW }
     ensures value { row.new ≡ row.old ++ tip_of kind address size }
@@ -225,7 +225,7 @@ fn short_fitting(kind: Kind, size: u32, width: u32) -> Row
 }
 
 /// The classes of a piece.
-fn classes_of(tint: Tint, kind: Kind, fresh: bool) -> Row
+pub fn classes_of(tint: Tint, kind: Kind, fresh: bool) -> Row
     ensures value { result ≡ piece_classes (tint_class tint) kind fresh }
     ensures few { length result ≤ 30 }
 {

@@ -18,13 +18,12 @@ use Rattle.rh_figure.specs.Changes.{changes}
 use Rattle.rh_sheet.specs.Markup.{escape, step_link, change_item}
 use Rattle.rh_sheet.specs.Fixed.{style_text, signs_text, key_text}
 use Rattle.rh_sheet.specs.Pool.{grid_text, pool_figure}
-use Rattle.rh_sheet.specs.SheetAreas.{slot_figure}
 use Rattle.rh_sheet.specs.Tables
 use Rattle.rh_sheet.specs.Chart.{arrows, chart_figure}
 use Rattle.rh_sheet.specs.Fates.{Note, noted}
 use Rattle.rh_sheet.specs.SheetSteps as steps
 use Rattle.rh_sheet.specs.Sheet
-use Rattle.rh_sheet.specs.WellFormed.{Reader, Words, read_on, EndsAll}
+use Rattle.rh_sheet.specs.WellFormed.{AreWhole, Reader, Words, read_on, EndsAll}
 
 -- ---- fixed texts
 
@@ -92,27 +91,30 @@ transfers-whole ts = table-whole
 heading : (x : Scene) (p : Panel) → Whole (steps.area_heading p)
 heading x p = heading-whole p.name p.note
 
-part-whole : (x : Scene) (t : Task) → Whole (steps.slot_part x t)
-part-whole x t = whole-both
-    _ (where_so (is_drawn x t) (slot_figure x t)) (heading-whole t.name (slot_note t))
-    (whole-so (is_drawn x t) (slot_figure x t) (slot-whole x t))
+pub true-scale-whole : AreWhole steps.at_true_scale
+true-scale-whole = record { slot = λ x t. (slot-whole x t).reads; module_area = λ x. (module-whole x).reads }
 
-module-part-whole : (x : Scene) → Whole (steps.module_part x)
-module-part-whole x =
-    whole-both _ _ (heading-whole (area_name module_area) (pages_text (module_pages x.desk))) (module-whole x)
+part-whole : (l : steps.Looks) → AreWhole l → (x : Scene) (t : Task) → Whole (steps.slot_part l x t)
+part-whole l looks x t = whole-both
+    _ (where_so (is_drawn x t) (l.slot x t)) (heading-whole t.name (slot_note t))
+    (whole-so (is_drawn x t) (l.slot x t) (record { reads = looks.slot x t }))
 
-memory-whole : (x : Scene) → Whole (steps.memory_text x)
-memory-whole x = record {
+module-part-whole : (l : steps.Looks) → AreWhole l → (x : Scene) → Whole (steps.module_part l x)
+module-part-whole l looks x = whole-both
+    _ _ (heading-whole (area_name module_area) (pages_text (module_pages x.desk))) (record { reads = looks.module_area x })
+
+memory-whole : (l : steps.Looks) → AreWhole l → (x : Scene) → Whole (steps.memory_text l x)
+memory-whole l looks x = record {
   reads = λ around. through
       (around, Words)
       (Fixed (codes "<div class=\"memory\">\n") ∷ Stays (pool_figure x) ∷ Stays (flat_map steps.area_heading (area_panels x))
-      ∷ Stays (flat_map (steps.slot_part x) x.desk.tasks) ∷ Stays (steps.module_part x) ∷ Fixed (codes "</div>\n") ∷ []) (
+      ∷ Stays (flat_map (steps.slot_part l x) x.desk.tasks) ∷ Stays (steps.module_part l x) ∷ Fixed (codes "</div>\n") ∷ []) (
         (pool-whole x).reads (codes "vid" ∷ around),
         (
           (whole-all steps.area_heading (area_panels x) (heading x)).reads (codes "vid" ∷ around),
           (
-            (whole-all (steps.slot_part x) x.desk.tasks (part-whole x)).reads (codes "vid" ∷ around),
-            ((module-part-whole x).reads (codes "vid" ∷ around), tt),
+            (whole-all (steps.slot_part l x) x.desk.tasks (part-whole l looks x)).reads (codes "vid" ∷ around),
+            ((module-part-whole l looks x).reads (codes "vid" ∷ around), tt),
           ),
         ),
       );
@@ -132,10 +134,10 @@ aside-whole x notes step = whole-so (steps.has_aside x notes) _ (record {
       );
 })
 
-figure-whole : (x : Scene) (notes : List Note) (step : ℕ) → Whole (steps.figure_text x notes step)
+figure-whole : (l : steps.Looks) → AreWhole l → (x : Scene) (notes : List Note) (step : ℕ) → Whole (steps.figure_text l x notes step)
 unfolding steps.figure_text
-figure-whole x notes step =
-    whole-both (steps.memory_text x) (steps.aside_text x notes step) (memory-whole x) (aside-whole x notes step)
+figure-whole l looks x notes step =
+    whole-both (steps.memory_text l x) (steps.aside_text x notes step) (memory-whole l looks x) (aside-whole x notes step)
 
 -- ---- what is said
 
@@ -193,22 +195,22 @@ step-opens n around = through
       ),
     )
 
-step-ends : (still : Bool) (step : ℕ) (line reply : Text) (x : Scene) (notes : List Note) (last : ℕ) (around : List Text)
-    → Same (read_on (says around) (steps.step_text still step line reply x notes last)) (around, Words)
-step-ends true step line reply x notes last around = through
+step-ends : (l : steps.Looks) → AreWhole l → (still : Bool) (step : ℕ) (line reply : Text) (x : Scene) (notes : List Note) (last : ℕ)
+    (around : List Text) → Same (read_on (says around) (steps.step_text l still step line reply x notes last)) (around, Words)
+step-ends l looks true step line reply x notes last around = through
     (says around)
     (Stays (steps.said_text step line reply) ∷ Stays (steps.still_text last) ∷ Fixed steps.said_end ∷ Fixed steps.step_end ∷ []) (
       (said-whole step line reply).reads (codes "vid" ∷ codes "noitces" ∷ around),
       ((still-whole last).reads (codes "vid" ∷ codes "noitces" ∷ around), tt),
     )
-step-ends false step line reply x notes last around = through
+step-ends l looks false step line reply x notes last around = through
     (says around)
     (Stays (steps.said_text step line reply) ∷ Stays (steps.changes_text (changes x)) ∷ Fixed steps.said_end
-    ∷ Stays (steps.figure_text x notes step) ∷ Fixed steps.step_end ∷ []) (
+    ∷ Stays (steps.figure_text l x notes step) ∷ Fixed steps.step_end ∷ []) (
       (said-whole step line reply).reads (codes "vid" ∷ codes "noitces" ∷ around),
       (
         (whole-all change_item (changes x) change-whole).reads (codes "vid" ∷ codes "noitces" ∷ around),
-        ((figure-whole x notes step).reads (codes "noitces" ∷ around), tt),
+        ((figure-whole l looks x notes step).reads (codes "noitces" ∷ around), tt),
       ),
     )
 
@@ -255,19 +257,20 @@ happened true true n t around ends = ends
 happened true false n t around ends = on (around, Words) (steps.step_open n) t (step-opens n around) ends
 
 -- a line that isn't skipped, with what happened
-happens : (marked : Bool) (x : Sheet.Walk) (r : Read) (line : Text) (h : Sheet.Happened) (around : List Text)
+happens : (marked : Bool) (x : Sheet.Walk) → AreWhole x.looks → (r : Read) (line : Text) (h : Sheet.Happened) (around : List Text)
     → Same (read_on (between x.opened around) (Sheet.happened_text marked x line h)) (between (Sheet.behind_happened marked x r h).opened around)
-happens marked x r line h around = happened
+happens marked x looks r line h around = happened
     (Sheet.is_shown marked x x.place.wanted) x.opened (x.shown + 1) _ around
-    (step-ends (h.still && not x.place.wanted) (x.place.lines + 1) line h.reply h.scene (noted (x.place.lines + 1) h.scene x.notes) x.last around)
+    (step-ends x.looks looks (h.still && not x.place.wanted) (x.place.lines + 1) line h.reply h.scene (noted (x.place.lines + 1) h.scene x.notes) x.last around)
 
 -- one line
-pub line-ends : (marked : Bool) (s : Share) (x : Sheet.Walk) (r : Read) (around : List Text)
+pub line-ends : (marked : Bool) (s : Share) (x : Sheet.Walk) → AreWhole x.looks → (r : Read) (around : List Text)
     → Same (read_on (between x.opened around) (Sheet.read_text marked s x r)) (between (Sheet.behind_read marked s x r).opened around)
-line-ends marked s x (line, Ok None) around = skipped (Sheet.is_shown_remark marked x line) x.opened (x.shown + 1) line around
-line-ends marked s x (line, Ok (Some c)) around = happens marked x (line, Ok (Some c)) line (Sheet.command_on s c x.place.desk) around
-line-ends marked s x (line, Err fault) around =
-    happens marked x (line, Err fault) line (Sheet.fault_happened s fault x.place.desk) around
+line-ends marked s x looks (line, Ok None) around = skipped (Sheet.is_shown_remark marked x line) x.opened (x.shown + 1) line around
+line-ends marked s x looks (line, Ok (Some c)) around =
+    happens marked x looks (line, Ok (Some c)) line (Sheet.command_on s c x.place.desk) around
+line-ends marked s x looks (line, Err fault) around =
+    happens marked x looks (line, Err fault) line (Sheet.fault_happened s fault x.place.desk) around
 
 -- ---- the foot
 
@@ -308,12 +311,19 @@ rest-ends : (opened : Bool) → Same (read_on (between opened outer) (where_so o
 rest-ends true = refl
 rest-ends false = refl
 
-pub lines-end : (marked : Bool) (x : Sheet.Walk) (stages : List Stage)
+-- how areas are drawn stays
+pub looks-stay : (marked : Bool) (s : Share) (x : Sheet.Walk) (r : Read) → AreWhole x.looks
+    → AreWhole (Sheet.behind_read marked s x r).looks
+looks-stay marked s x (line, Ok None) looks = looks
+looks-stay marked s x (line, Ok (Some c)) looks = looks
+looks-stay marked s x (line, Err fault) looks = looks
+
+pub lines-end : (marked : Bool) (x : Sheet.Walk) → AreWhole x.looks → (stages : List Stage)
     → Same (read_on (between x.opened outer) (Sheet.sheet_lines marked x stages)) ([], Words)
-lines-end marked x [] = on (between x.opened outer) (Sheet.open_rest x) _ (rest-ends x.opened) (foot-ends (Sheet.steps_begun x) x.left)
-lines-end marked x ((r, s) ∷ rest) = on
-    (between x.opened outer) (Sheet.read_text marked s x r) _ (line-ends marked s x r outer)
-    (lines-end marked (Sheet.behind_read marked s x r) rest)
+lines-end marked x looks [] = on (between x.opened outer) (Sheet.open_rest x) _ (rest-ends x.opened) (foot-ends (Sheet.steps_begun x) x.left)
+lines-end marked x looks ((r, s) ∷ rest) = on
+    (between x.opened outer) (Sheet.read_text marked s x r) _ (line-ends marked s x looks r outer)
+    (lines-end marked (Sheet.behind_read marked s x r) (looks-stay marked s x r looks) rest)
 
 -- ---- the head
 
@@ -354,6 +364,10 @@ head-ends name pages = through
     )
 
 pub ends-all : EndsAll
-ends-all name pages marked x stages fresh = on
-    ([], Words) (Sheet.sheet_head name pages) (Sheet.sheet_lines marked x stages) (head-ends name pages)
-    (ap (λ (b : Bool). read_on (between b outer) (Sheet.sheet_lines marked x stages)) (sym fresh) ∙ lines-end marked x stages)
+ends-all = record {
+  true_scale = true-scale-whole;
+  sheets = λ name pages marked x stages looks fresh. on
+      ([], Words) (Sheet.sheet_head name pages) (Sheet.sheet_lines marked x stages) (head-ends name pages)
+      (ap (λ (b : Bool). read_on (between b outer) (Sheet.sheet_lines marked x stages)) (sym fresh)
+      ∙ lines-end marked x looks stages);
+}

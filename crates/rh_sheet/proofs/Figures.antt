@@ -36,10 +36,10 @@ use Rattle.rh_sheet.specs.WellFormed.{Words, Within, Quoted, read_on}
 
 -- ---- whose it is
 
-task-value : (h : ℕ) → Value (task_class h)
+pub task-value : (h : ℕ) → Value (task_class h)
 task-value h = value-both (codes "t") _ (plain refl) (decimal-value _)
 
-area-value : (k : ℕ) → Value (area_class k)
+pub area-value : (k : ℕ) → Value (area_class k)
 area-value k = value-if (k == module_area) (codes "m") (codes "o") (plain refl) (plain refl)
 
 owner-value : (o : Owner) → Value (owner_class o)
@@ -134,7 +134,7 @@ pool-whole x = svg-whole FIGURE_WIDTH (Pool.pool_height x.desk.pool + FRAME_EDGE
 
 -- ---- pieces and rows
 
-kind-value : (kind : Kind) → Value (SheetPieces.kind_class kind)
+pub kind-value : (kind : Kind) → Value (SheetPieces.kind_class kind)
 kind-value AnchorWords = record { reads = λ around name. refl }
 kind-value Descriptor = record { reads = λ around name. refl }
 kind-value (Claimed n) = record { reads = λ around name. refl }
@@ -145,7 +145,7 @@ kind-value FreeTop = record { reads = λ around name. refl }
 kind-value (FlexBlock k n) = record { reads = λ around name. refl }
 kind-value Unused = record { reads = λ around name. refl }
 
-piece-value : (tint : Text) (kind : Kind) (fresh : Bool) → Value tint → Value (SheetPieces.piece_classes tint kind fresh)
+pub piece-value : (tint : Text) (kind : Kind) (fresh : Bool) → Value tint → Value (SheetPieces.piece_classes tint kind fresh)
 piece-value tint kind fresh value = value-both
     (SheetPieces.kind_class kind) _ (kind-value kind)
     (value-both

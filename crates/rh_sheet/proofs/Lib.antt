@@ -3,9 +3,9 @@ mod Inside
 mod Slides
 pub mod Alike
 mod Worked
-mod Reading
-mod Elements
-mod Figures
+pub mod Reading
+pub mod Elements
+pub mod Figures
 mod Ends
 mod Retold
 mod Dated

@@ -12,7 +12,7 @@ use Rattle.rh_sheet.specs.Markup.{escape, escaped_byte}
 use Rattle.rh_sheet.specs.Fates.{Note, noted}
 use Rattle.rh_sheet.specs.SheetSteps as steps
 use Rattle.rh_sheet.specs.Sheet
-use Rattle.rh_sheet.specs.WellFormed.{Reader, Words, Sign, read_byte, read_on}
+use Rattle.rh_sheet.specs.WellFormed.{AreWhole, Reader, Words, Sign, read_byte, read_on}
 use Rattle.rh_sheet.specs.TextLaws.{byte_of_markup, markup, SaysOther, AreRetold, SaysNoMarkup}
 
 -- ---- markup of texts one behind the other
@@ -103,13 +103,13 @@ said-alike n line other reply answer around = behind
     (command-ends n line around) (head-alike n line other around)
     (told (codes "erp" ∷ around) (steps.reply_shown reply) (steps.reply_shown answer) _ _ (same (codes "erp" ∷ around, Words) _))
 
-step-alike : (still : Bool) (n : ℕ) (line other reply answer : Text) (x : Scene) (notes : List Note) (last : ℕ) (around : List Text)
-    → Alike (says around) (steps.step_text still n line reply x notes last) (steps.step_text still n other answer x notes last)
-step-alike true n line other reply answer x notes last around = behind
+step-alike : (l : steps.Looks) (still : Bool) (n : ℕ) (line other reply answer : Text) (x : Scene) (notes : List Note) (last : ℕ) (around : List Text)
+    → Alike (says around) (steps.step_text l still n line reply x notes last) (steps.step_text l still n other answer x notes last)
+step-alike l true n line other reply answer x notes last around = behind
     (says around) (says around) (steps.said_text n line reply) (steps.said_text n other answer) _ _
     ((said-whole n line reply).reads (codes "vid" ∷ codes "noitces" ∷ around))
     (said-alike n line other reply answer (codes "vid" ∷ codes "noitces" ∷ around)) (same (says around) _)
-step-alike false n line other reply answer x notes last around = behind
+step-alike l false n line other reply answer x notes last around = behind
     (says around) (says around) (steps.said_text n line reply) (steps.said_text n other answer) _ _
     ((said-whole n line reply).reads (codes "vid" ∷ codes "noitces" ∷ around))
     (said-alike n line other reply answer (codes "vid" ∷ codes "noitces" ∷ around)) (same (says around) _)
@@ -163,7 +163,7 @@ happens-alike : (marked : Bool) (x : Sheet.Walk) (line other : Text) (h : Sheet.
     → Alike (between x.opened around) (Sheet.happened_text marked x line h) (Sheet.happened_text marked x other h)
 happens-alike marked x line other h around = happened-alike
     (Sheet.is_shown marked x x.place.wanted) x.opened (x.shown + 1) _ _ around
-    (step-alike (h.still && not x.place.wanted) (x.place.lines + 1) line other h.reply h.reply h.scene
+    (step-alike x.looks (h.still && not x.place.wanted) (x.place.lines + 1) line other h.reply h.reply h.scene
     (noted (x.place.lines + 1) h.scene x.notes) x.last around)
 
 -- whether a remark is shown, by whether it has words and is a title
@@ -189,31 +189,31 @@ behind-same : (marked : Bool) (x : Sheet.Walk) (line other : Text) → SaysOther
 behind-same marked x line other is = ap₂ (λ (mark none : Bool). walk-by marked x none mark) is.title is.words
 
 -- the lines of a sheet, up to its end
-lines-alike : (marked : Bool) (x : Sheet.Walk) (lines others : List Stage) → AreRetold lines others
+lines-alike : (marked : Bool) (x : Sheet.Walk) → AreWhole x.looks → (lines others : List Stage) → AreRetold lines others
     → Alike (between x.opened outer) (Sheet.sheet_lines marked x lines) (Sheet.sheet_lines marked x others)
-lines-alike marked x [] [] is = same (between x.opened outer) _
-lines-alike marked x [] (b ∷ others) is = absurd is
-lines-alike marked x (a ∷ lines) [] is = absurd is
-lines-alike marked x (((line, Ok None), s) ∷ lines) (b ∷ others) is =
+lines-alike marked x looks [] [] is = same (between x.opened outer) _
+lines-alike marked x looks [] (b ∷ others) is = absurd is
+lines-alike marked x looks (a ∷ lines) [] is = absurd is
+lines-alike marked x looks (((line, Ok None), s) ∷ lines) (b ∷ others) is =
     let said : SaysOther line b.0.0 = is.0.skipped refl in
     to (between x.opened outer) _ (Sheet.skipped_text marked x b.0.0 ++ Sheet.sheet_lines marked (Sheet.behind_skipped marked x (line, Ok None)) others) _
     (ap₂ (λ m s. Sheet.sheet_lines marked x (((b.0.0, m), s) ∷ others)) is.0.meaning is.0.share
     ∙ ap (λ w. Sheet.skipped_text marked x b.0.0 ++ Sheet.sheet_lines marked w others) (behind-same marked x line b.0.0 said))
     (behind (between x.opened outer) _ (Sheet.skipped_text marked x line) (Sheet.skipped_text marked x b.0.0) _ _
-    (line-ends marked s x (line, Ok None) outer) (none-alike marked x line b.0.0 said outer)
-    (lines-alike marked (Sheet.behind_skipped marked x (line, Ok None)) lines others is.1))
-lines-alike marked x (((line, Ok (Some c)), s) ∷ lines) (b ∷ others) is =
+    (line-ends marked s x looks (line, Ok None) outer) (none-alike marked x line b.0.0 said outer)
+    (lines-alike marked (Sheet.behind_skipped marked x (line, Ok None)) looks lines others is.1))
+lines-alike marked x looks (((line, Ok (Some c)), s) ∷ lines) (b ∷ others) is =
     to (between x.opened outer) _ (Sheet.sheet_lines marked x (((b.0.0, Ok (Some c)), s) ∷ others)) _
     (ap₂ (λ m s. Sheet.sheet_lines marked x (((b.0.0, m), s) ∷ others)) is.0.meaning is.0.share)
-    (behind (between x.opened outer) _ _ _ _ _ (line-ends marked s x (line, Ok (Some c)) outer)
+    (behind (between x.opened outer) _ _ _ _ _ (line-ends marked s x looks (line, Ok (Some c)) outer)
     (happens-alike marked x line b.0.0 (Sheet.command_on s c x.place.desk) outer)
-    (lines-alike marked (Sheet.behind_read marked s x (line, Ok (Some c))) lines others is.1))
-lines-alike marked x (((line, Err fault), s) ∷ lines) (b ∷ others) is =
+    (lines-alike marked (Sheet.behind_read marked s x (line, Ok (Some c))) looks lines others is.1))
+lines-alike marked x looks (((line, Err fault), s) ∷ lines) (b ∷ others) is =
     to (between x.opened outer) _ (Sheet.sheet_lines marked x (((b.0.0, Err fault), s) ∷ others)) _
     (ap₂ (λ m s. Sheet.sheet_lines marked x (((b.0.0, m), s) ∷ others)) is.0.meaning is.0.share)
-    (behind (between x.opened outer) _ _ _ _ _ (line-ends marked s x (line, Err fault) outer)
+    (behind (between x.opened outer) _ _ _ _ _ (line-ends marked s x looks (line, Err fault) outer)
     (happens-alike marked x line b.0.0 (Sheet.fault_happened s fault x.place.desk) outer)
-    (lines-alike marked (Sheet.behind_read marked s x (line, Err fault)) lines others is.1))
+    (lines-alike marked (Sheet.behind_read marked s x (line, Err fault)) looks lines others is.1))
 
 -- ---- the head
 
@@ -241,18 +241,19 @@ names-alike name other pages =
 
 -- ---- all of it
 
-sheets-alike : (name other : Text) (pages : ℕ) (marked : Bool) (x : Sheet.Walk) (lines others : List Stage) → x.opened ≡ false
-    → AreRetold lines others → Alike ([], Words) (Sheet.sheet_head name pages ++ Sheet.sheet_lines marked x lines)
+sheets-alike : (name other : Text) (pages : ℕ) (marked : Bool) (x : Sheet.Walk) (lines others : List Stage) → AreWhole x.looks
+    → x.opened ≡ false → AreRetold lines others → Alike ([], Words) (Sheet.sheet_head name pages ++ Sheet.sheet_lines marked x lines)
     (Sheet.sheet_head other pages ++ Sheet.sheet_lines marked x others)
-sheets-alike name other pages marked x lines others fresh are = behind
+sheets-alike name other pages marked x lines others looks fresh are = behind
     ([], Words) (between x.opened outer) (Sheet.sheet_head name pages) (Sheet.sheet_head other pages) _ _
     (head-ends name pages ∙ ap (λ (b : Bool). between b outer) (sym fresh)) (names-alike name other pages)
-    (lines-alike marked x lines others are)
+    (lines-alike marked x looks lines others are)
 
 pub says-no-markup : SaysNoMarkup
 says-no-markup = record {
-  sheets = λ name other pages marked x lines others fresh are. (sheets-alike name other pages marked x lines others fresh are).marks;
-  steps = λ around still n line other reply answer x notes last.
-      (step-alike still n line other reply answer x notes last around).marks;
+  sheets = λ name other pages marked x lines others looks fresh are.
+      (sheets-alike name other pages marked x lines others looks fresh are).marks;
+  steps = λ l around still n line other reply answer x notes last.
+      (step-alike l still n line other reply answer x notes last around).marks;
   texts = escape-unmarked;
 }

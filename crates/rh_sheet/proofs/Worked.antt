@@ -10,6 +10,7 @@ use Rattle.rh_defs.specs.Runs.{start}
 use Rattle.rh_defs.specs.Script.{lines_desk}
 use Rattle.rh_figure.specs.Share.{Owner, AreaOf, SlotOf, Share}
 use Rattle.rh_figure.specs.Map.{Stage, map_start}
+use Rattle.rh_sheet.specs.SheetSteps.{at_true_scale}
 use Rattle.rh_sheet.specs.Sheet.{command_on, sheet_lines}
 use Rattle.rh_sheet.specs.WellFormed.{Words, Lost, read_on}
 use Rattle.rh_sheet.specs.TextLaws.{markup, AreRetold}
@@ -173,7 +174,7 @@ rest_of_sheet =
     ∷ []
 
 pub worked_sheet :
-    sheet_lines false (record { place = map_start 8 []; shown = 0; last = 0; left = 0; opened = false; notes = [] }) stages
+    sheet_lines false (record { place = map_start 8 []; shown = 0; last = 0; left = 0; opened = false; notes = []; looks = at_true_scale }) stages
     ≡ text_of (first_step ++ module_part ++ second_step ++ module_part ++ rest_of_sheet)
 unfolding computing_sheet hex_on_literals
 worked_sheet = refl
@@ -233,7 +234,7 @@ retold = (
 -- the elements of both, from a sheet's head on
 marked_up :
     markup (codes "niam" ∷ codes "ydob" ∷ codes "lmth" ∷ [], Words)
-    (sheet_lines false (record { place = map_start 8 []; shown = 0; last = 0; left = 0; opened = false; notes = [] }) said_with_signs)
+    (sheet_lines false (record { place = map_start 8 []; shown = 0; last = 0; left = 0; opened = false; notes = []; looks = at_true_scale }) said_with_signs)
     ≡ concat (
     codes "<section id=\"d1\"><div class=\"says\"><nav><span></span><a href=\"#d2\"></a><a href=\"#all\"></a></nav>"
     ∷ codes "<p class=\"remark\"></p><h2><b></b><code></code></h2><pre></pre><p class=\"still\"></p></div></section>"

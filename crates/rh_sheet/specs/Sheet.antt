@@ -21,7 +21,7 @@ use Rattle.rh_sheet.specs.Markup.{escape, step_link}
 use Rattle.rh_sheet.specs.Fixed.{style_text, signs_text, key_text}
 use Rattle.rh_sheet.specs.Pool.{grid_text}
 use Rattle.rh_sheet.specs.Fates.{Note, noted}
-use Rattle.rh_sheet.specs.SheetSteps.{step_open, step_text, remark_byte, remark_text, said_end, step_end}
+use Rattle.rh_sheet.specs.SheetSteps.{Looks, step_open, step_text, remark_byte, remark_text, said_end, step_end}
 
 -- ---- head and foot
 
@@ -70,7 +70,8 @@ sheet_foot n left = concat (
 -- ---- from line to line
 
 -- Where a sheet stands between two lines: where a map would; how many steps it has, the last one with a figure, and how
--- many commands have none; whether a step was begun by a remark; and what is kept of the last messages.
+-- many commands have none; whether a step was begun by a remark; what is kept of the last messages; and how areas are
+-- drawn, which stays.
 pub record Walk : Type 0 where
   pub place : Place
   pub shown : ℕ
@@ -78,6 +79,7 @@ pub record Walk : Type 0 where
   pub left : ℕ
   pub opened : Bool
   pub notes : List Note
+  pub looks : Looks
 
 -- whether the next command gets a step, where a mark was seen or not
 abbrev pub is_shown : Bool → Walk → Bool → Bool
@@ -115,7 +117,7 @@ fault_happened s fault d = record {
 -- the step of a line that isn't skipped
 abbrev pub shown_step : Walk → Text → Happened → Text
 shown_step x line h = opening x ++ step_text
-    (h.still && not x.place.wanted) (x.place.lines + 1) line h.reply h.scene
+    x.looks (h.still && not x.place.wanted) (x.place.lines + 1) line h.reply h.scene
     (noted (x.place.lines + 1) h.scene x.notes) x.last
 
 -- where the sheet stands behind a line that isn't skipped, if it gets a step or not
@@ -127,6 +129,7 @@ behind_step shown x r h = record {
   left = if shown then x.left else x.left + 1;
   opened = x.opened && not shown;
   notes = noted (x.place.lines + 1) h.scene x.notes;
+  looks = x.looks;
 }
 
 -- what is written of a line that isn't skipped

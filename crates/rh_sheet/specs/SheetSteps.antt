@@ -1,5 +1,5 @@
 -- A step of a sheet: the command, its reply, what has changed, and the figure. Read Markup, SheetAreas, Pool, Chart and
--- Tables first. x is the scene, t a task, p a panel, step is the number of a step's line in the
+-- Tables first. x is the scene, l how areas are drawn, t a task, p a panel, step is the number of a step's line in the
 -- script, n counts the steps that are shown.
 use Rattle.std.specs.Prelude.{ℕ, ◌+◌, ◌-◌, ◌==◌, nat_lt, ◌||◌, not, Bool, if◌then◌else◌, List, [], ◌∷◌, ◌++◌, length, drop, map, codes}
 use Rattle.std.specs.List.{concat, flat_map, join_by}
@@ -23,22 +23,31 @@ use Rattle.rh_sheet.specs.Fates.{Note}
 
 -- ---- the figure
 
+-- how a slot and the module area are drawn
+pub record Looks : Type 0 where
+  pub slot : Scene → Task → Text
+  pub module_area : Scene → Text
+
+-- at true scale, with cards
+abbrev pub at_true_scale : Looks
+at_true_scale = record { slot = slot_figure; module_area = module_figure }
+
 -- an area that is pages alone
 abbrev pub area_heading : Panel → Text
 area_heading p = heading_text p.name p.note
 
 -- a slot, of which the bytes are drawn or not
-abbrev pub slot_part : Scene → Task → Text
-slot_part x t = heading_text t.name (slot_note t) ++ where_so (is_drawn x t) (slot_figure x t)
+abbrev pub slot_part : Looks → Scene → Task → Text
+slot_part l x t = heading_text t.name (slot_note t) ++ where_so (is_drawn x t) (l.slot x t)
 
-abbrev pub module_part : Scene → Text
-module_part x = heading_text (area_name module_area) (pages_text (module_pages x.desk)) ++ module_figure x
+abbrev pub module_part : Looks → Scene → Text
+module_part l x = heading_text (area_name module_area) (pages_text (module_pages x.desk)) ++ l.module_area x
 
 -- the pool, areas, slots and the module area
-abbrev pub memory_text : Scene → Text
-memory_text x = concat (
+abbrev pub memory_text : Looks → Scene → Text
+memory_text l x = concat (
     codes "<div class=\"memory\">\n" ∷ pool_figure x ∷ flat_map area_heading (area_panels x)
-    ∷ flat_map (slot_part x) x.desk.tasks ∷ module_part x ∷ codes "</div>\n" ∷ []
+    ∷ flat_map (slot_part l x) x.desk.tasks ∷ module_part l x ∷ codes "</div>\n" ∷ []
     )
 
 -- whether something stands beside the memory
@@ -53,8 +62,8 @@ aside_text x notes step = where_so (has_aside x notes) (concat (
     ∷ transfers_table (transfers x) ∷ codes "</aside>\n" ∷ []
     ))
 
-unfoldable pub figure_text : Scene → List Note → ℕ → Text
-figure_text x notes step = memory_text x ++ aside_text x notes step
+unfoldable pub figure_text : Looks → Scene → List Note → ℕ → Text
+figure_text l x notes step = memory_text l x ++ aside_text x notes step
 
 -- ---- what is said
 
@@ -117,15 +126,15 @@ abbrev pub still_step : ℕ → Text → Text → ℕ → Text
 still_step step line reply last = concat (said_text step line reply ∷ still_text last ∷ said_end ∷ step_end ∷ [])
 
 -- a step with one
-abbrev pub drawn_step : ℕ → Text → Text → Scene → List Note → Text
-drawn_step step line reply x notes = concat (
-    said_text step line reply ∷ changes_text (changes x) ∷ said_end ∷ figure_text x notes step ∷ step_end ∷ []
+abbrev pub drawn_step : Looks → ℕ → Text → Text → Scene → List Note → Text
+drawn_step l step line reply x notes = concat (
+    said_text step line reply ∷ changes_text (changes x) ∷ said_end ∷ figure_text l x notes step ∷ step_end ∷ []
     )
 
 -- a step behind its remarks; the last figure is that of a step, or there is none yet
-abbrev pub step_text : Bool → ℕ → Text → Text → Scene → List Note → ℕ → Text
-step_text still step line reply x notes last =
-    if still then still_step step line reply last else drawn_step step line reply x notes
+abbrev pub step_text : Looks → Bool → ℕ → Text → Text → Scene → List Note → ℕ → Text
+step_text l still step line reply x notes last =
+    if still then still_step step line reply last else drawn_step l step line reply x notes
 
 -- ---- remarks
 

@@ -7,9 +7,9 @@ use Rattle.rh_figure.specs.Scene.{Scene}
 use Rattle.rh_figure.specs.Map.{Stage, is_mark}
 use Rattle.rh_sheet.specs.Markup.{escape}
 use Rattle.rh_sheet.specs.Fates.{Note}
-use Rattle.rh_sheet.specs.SheetSteps.{remark_words, step_text}
+use Rattle.rh_sheet.specs.SheetSteps.{Looks, remark_words, step_text}
 use Rattle.rh_sheet.specs.Sheet.{Walk, sheet_head, sheet_lines}
-use Rattle.rh_sheet.specs.WellFormed.{Spot, Words, Reader, read_byte}
+use Rattle.rh_sheet.specs.WellFormed.{AreWhole, Spot, Words, Reader, read_byte}
 
 -- ---- what is markup
 
@@ -47,13 +47,13 @@ AreRetold (line ∷ lines) (other ∷ others) = IsRetold line other × AreRetold
 AreRetold _ _ = ⊥
 
 -- The elements of a sheet and their attributes are the same, byte for byte, whatever its name, its remarks, its titles
--- and its lines say; those of a step are, whatever its line and its reply say; and no byte of an escaped text, such as a
+-- and its lines say, wherever areas are drawn as whole elements; those of a step are, whatever its line and its reply say; and no byte of an escaped text, such as a
 -- task's name, belongs to an element.
 pub record SaysNoMarkup : Type 0 where
-  pub sheets : (name other : Text) (pages : ℕ) (marked : Bool) (x : Walk) (lines others : List Stage) → x.opened ≡ false →
-      AreRetold lines others → markup ([], Words) (sheet_head other pages ++ sheet_lines marked x others)
+  pub sheets : (name other : Text) (pages : ℕ) (marked : Bool) (x : Walk) (lines others : List Stage) → AreWhole x.looks →
+      x.opened ≡ false → AreRetold lines others → markup ([], Words) (sheet_head other pages ++ sheet_lines marked x others)
       ≡ markup ([], Words) (sheet_head name pages ++ sheet_lines marked x lines)
-  pub steps : (around : List Text) (still : Bool) (n : ℕ) (line other reply answer : Text) (x : Scene) (notes : List Note)
-      (last : ℕ) → markup (codes "vid" ∷ codes "noitces" ∷ around, Words) (step_text still n other answer x notes last)
-      ≡ markup (codes "vid" ∷ codes "noitces" ∷ around, Words) (step_text still n line reply x notes last)
+  pub steps : (l : Looks) (around : List Text) (still : Bool) (n : ℕ) (line other reply answer : Text) (x : Scene) (notes : List Note)
+      (last : ℕ) → markup (codes "vid" ∷ codes "noitces" ∷ around, Words) (step_text l still n other answer x notes last)
+      ≡ markup (codes "vid" ∷ codes "noitces" ∷ around, Words) (step_text l still n line reply x notes last)
   pub texts : (around : List Text) (t : Text) → markup (around, Words) (escape t) ≡ []

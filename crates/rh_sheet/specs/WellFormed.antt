@@ -5,6 +5,9 @@ use Rattle.std.specs.Str.{bytes_eq}
 use Rattle.rh_defs.specs.Bytes.{space}
 use Rattle.rh_figure.specs.Phrases.{Text}
 use Rattle.rh_figure.specs.Map.{Stage}
+use Rattle.rh_defs.specs.Desk.{Task}
+use Rattle.rh_figure.specs.Scene.{Scene}
+use Rattle.rh_sheet.specs.SheetSteps.{Looks, at_true_scale}
 use Rattle.rh_sheet.specs.Sheet.{Walk, sheet_head, sheet_lines}
 
 -- Where a reader of a document stands: among words; behind `<`; in the name of an element that begins or ends, of which
@@ -51,8 +54,18 @@ abbrev pub read_on : Reader → Text → Reader
 read_on r [] = r
 read_on r (b ∷ t) = read_on (read_byte r.0 r.1 b) t
 
+-- a text of whole elements
+abbrev pub HasWholeElements : Text → Type 0
+HasWholeElements t = (around : List Text) → read_on (around, Words) t ≡ (around, Words)
+
+-- whatever areas are drawn so, their elements end where they have to
+pub record AreWhole (l : Looks) : Type 0 where
+  pub slot : (x : Scene) (t : Task) → HasWholeElements (l.slot x t)
+  pub module_area : (x : Scene) → HasWholeElements (l.module_area x)
+
 -- Whatever a script and its name say, and however the pool is shared out: a sheet's elements lie in each other, each
--- ends where it has to, and none is left open.
-abbrev pub EndsAll : Type 0
-EndsAll = (name : Text) (pages : ℕ) (marked : Bool) (x : Walk) (stages : List Stage) → x.opened ≡ false →
-    read_on ([], Words) (sheet_head name pages ++ sheet_lines marked x stages) ≡ ([], Words)
+-- ends where it has to, and none is left open. That is so at true scale, and wherever areas are drawn as whole elements.
+pub record EndsAll : Type 0 where
+  pub true_scale : AreWhole at_true_scale
+  pub sheets : (name : Text) (pages : ℕ) (marked : Bool) (x : Walk) (stages : List Stage) → AreWhole x.looks →
+      x.opened ≡ false → read_on ([], Words) (sheet_head name pages ++ sheet_lines marked x stages) ≡ ([], Words)

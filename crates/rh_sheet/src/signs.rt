@@ -1,7 +1,7 @@
 //! What the figures of a sheet are painted with.
 
-/// Patterns of the pool's squares, of words and of holes, the heads of two kinds of arrow, and what ends an arrow whose
-/// message is held, or vanished.
+/// Patterns of the pool's squares, of words and of holes, the heads of three kinds of arrow, and what ends an arrow
+/// whose message is held, or vanished.
 pub const SIGNS: &[u8] = b"\
 <pattern id=\"cells\" x=\"150\" width=\"32\" height=\"32\" patternUnits=\"userSpaceOnUse\">
 <path d=\"M32 0H0V32\"/>
@@ -16,6 +16,9 @@ pub const SIGNS: &[u8] = b"\
 <path d=\"M0 1L8 4L0 7z\"/>
 </marker>
 <marker id=\"point\" viewBox=\"0 0 8 8\" refX=\"7\" refY=\"4\" markerWidth=\"5\" markerHeight=\"5\" orient=\"auto\">
+<path d=\"M0 0L8 4L0 8z\"/>
+</marker>
+<marker id=\"lead\" viewBox=\"0 0 8 8\" refX=\"7\" refY=\"4\" markerWidth=\"5\" markerHeight=\"5\" orient=\"auto\">
 <path d=\"M0 0L8 4L0 8z\"/>
 </marker>
 <marker id=\"ring\" viewBox=\"0 0 12 12\" refX=\"6\" refY=\"6\" \

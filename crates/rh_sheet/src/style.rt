@@ -8,7 +8,8 @@
 /// The style of every sheet.
 pub const STYLE: &[u8] = b"\
 :root { --text: #1d2329; --quiet: #505963; --edge: #86909a; --faint: #d9dee3; --changed: #a8330a; --paper: white; }
-:root { --free: white; --lens: #eff2f5; --ink: #4a5159; --stripe: #69727c; --post: #6b747e; color-scheme: light dark; }
+:root { --free: white; --lens: #eff2f5; --ink: #4a5159; --stripe: #69727c; --post: #6b747e; }
+:root { --anchor: #ffe9a8; --lead: #8a6400; color-scheme: light dark; }
 :root { --around: drop-shadow(2px 0 0 var(--changed)) drop-shadow(-2px 0 0 var(--changed))
   drop-shadow(0 2px 0 var(--changed)) drop-shadow(0 -2px 0 var(--changed)); }
 * { box-sizing: border-box; }
@@ -50,6 +51,7 @@ pre { margin: 0; font-size: 0.88rem; white-space: pre-wrap; overflow-wrap: anywh
 pre + .change { margin-top: 0.6rem; }
 .memory { margin-top: 1rem; overflow-x: auto; }
 .memory svg { min-width: 40rem; }
+.memory svg:has(> [data-key]) { min-width: 60rem; }
 aside svg { max-width: 22rem; margin-top: 1.25rem; }
 table { width: 100%; margin-top: 1.25rem; border-collapse: collapse; font-size: 0.85rem; }
 caption { font-weight: bold; text-align: left; }
@@ -122,6 +124,35 @@ text { font-size: 16px; fill: var(--text); }
 .lab.flex { fill: var(--free); }
 .lab.top, .lab.spare { fill: var(--quiet); }
 
+/* a lens: parts as wide as their words want, in rows; a strip of pages at true scale above them */
+.page { stroke: var(--edge); }
+.pagen { font-size: 11px; }
+.mark { fill: var(--ink); stroke: none; }
+.mark.hole { fill: var(--free); }
+.mark.anchors { fill: var(--lead); }
+.band { font-size: 11.5px; fill: var(--quiet); stroke: var(--paper); stroke-width: 4px; paint-order: stroke; }
+.part { stroke: var(--edge); }
+.part.hole { fill: var(--free); stroke: var(--stripe); stroke-dasharray: 5 3; }
+.part.top, .part.spare { fill: var(--free); stroke-dasharray: 1.5 2.5; }
+.part.anchor { fill: var(--anchor); stroke: var(--lead); }
+.part.none { fill: var(--free); stroke-dasharray: 4 3; }
+.part.fresh { stroke: var(--changed); stroke-width: 3; stroke-dasharray: none; }
+.word { fill: var(--ink); }
+.name { font-size: 11.5px; font-weight: bold; }
+.told { font-size: 11.5px; }
+.byte { fill: var(--free); stroke: var(--edge); }
+.digits { font-size: 11px; text-anchor: middle; }
+.letter { font-size: 14px; font-weight: bold; text-anchor: middle; }
+.break { fill: none; stroke: var(--quiet); stroke-width: 1.5; }
+.leads { fill: none; stroke: var(--lead); stroke-width: 1.5; marker-end: url(#lead); }
+.leads.fresh { stroke: var(--changed); stroke-width: 2.5; marker-end: url(#point); }
+
+/* what stands in a part comes behind its rectangle, in a group with it */
+.flex ~ .name, .flex ~ .told, .part.head ~ .name, .part.head ~ .told { fill: var(--free); }
+.flex ~ .break, .flex ~ .word { stroke: var(--free); }
+.top ~ .name, .spare ~ .name, .hole ~ .name, .none ~ .name { fill: var(--quiet); }
+.top ~ .told, .spare ~ .told, .hole ~ .told, .none ~ .told { fill: var(--quiet); }
+
 /* messages between the tasks */
 .who { font-size: 14px; font-weight: bold; text-anchor: middle; }
 .dead { fill: var(--quiet); text-decoration: line-through; }
@@ -141,6 +172,7 @@ pattern path { fill: none; stroke: var(--faint); }
 #stripes path { stroke: var(--stripe); stroke-width: 1.4; }
 #tip path { fill: var(--post); }
 #point path { fill: var(--changed); }
+#lead path { fill: var(--lead); }
 #ring path { fill: var(--paper); stroke: var(--post); stroke-width: 2; }
 #cross path { stroke: var(--text); stroke-width: 3; }
 
@@ -148,6 +180,7 @@ pattern path { fill: none; stroke: var(--faint); }
 @media screen and (prefers-color-scheme: dark) {
   :root { --text: #e6eaee; --quiet: #aab4be; --edge: #6d7883; --faint: #353e47; --changed: #ffa27a; --paper: #1a1f25; }
   :root { --free: #14181c; --lens: #262d34; --ink: #b4bdc6; --stripe: #8b959f; --post: #98a2ad; }
+  :root { --anchor: #5b4a12; --lead: #e8c25a; }
   .t0 { fill: #27435f; }
   .t1 { fill: #54431a; }
   .t2 { fill: #334d27; }
@@ -176,6 +209,7 @@ pattern path { fill: none; stroke: var(--faint); }
   .says { grid-area: 1 / 1; }
   aside { grid-area: 2 / 1; }
   .memory { grid-area: 1 / 2 / span 2; margin: 0; overflow: visible; }
+  .memory svg:has(> [data-key]) { min-width: 0; }
 }
 
 /* on paper no step is cut, and no link is shown */
@@ -188,7 +222,7 @@ pattern path { fill: none; stroke: var(--faint); }
   .says { grid-area: 1 / 1; }
   aside { grid-area: 1 / 2; }
   .memory { grid-area: 2 / 1 / auto / span 2; margin-top: 0.6rem; overflow: visible; }
-  .memory svg { min-width: 0; }
+  .memory svg, .memory svg:has(> [data-key]) { min-width: 0; }
   h3 { break-after: avoid; }
   svg, table { break-inside: avoid; }
 }
