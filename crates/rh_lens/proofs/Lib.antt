@@ -1,0 +1,10 @@
+mod Rows
+mod WordRoom
+mod Whole
+mod Worked
+mod WorkedLens
+mod FlowLemmas
+mod TellableLemmas
+mod ByteLemmas
+mod LoopLemmas
+mod LensElements

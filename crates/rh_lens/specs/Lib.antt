@@ -1,0 +1,17 @@
+pub mod Anchors
+pub mod ByteWords
+pub mod Inner
+pub mod Items
+pub mod Lens
+pub mod LensArrows
+pub mod LensBands
+pub mod LensLaws
+pub mod LensParts
+pub mod LensSpots
+pub mod LensWords
+pub mod PartWords
+pub mod PlacedSpots
+pub mod Strip
+pub mod ToldInside
+pub mod Views
+pub mod Widths
