@@ -24,6 +24,10 @@ pub mod Common
 pub mod BandLemmas
 pub mod SlotLemmas
 pub mod LensLemmas
+mod LensPieces
+mod LensTells
+mod LensLooks
+mod ShownAnchorLemmas
 pub mod OwnerLemmas
 mod WalkLemmas
 mod SheetLemmas

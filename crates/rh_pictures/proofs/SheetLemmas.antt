@@ -6,7 +6,7 @@ use Rattle.rh_pictures.proofs.Common.{fault_happened, happened_text, read_text, 
 use Rattle.rh_defs.specs.Line.{longest_line}
 use Rattle.rh_figure.specs.Map.{shown_byte}
 use Rattle.rh_figure.specs.declared.limits.TheConstants.{LINE_COLUMNS}
-use Rattle.rh_sheet.specs.SheetSteps.{command_text, reply_shown, said_text, still_text}
+use Rattle.rh_sheet.specs.SheetSteps.{Looks, command_text, reply_shown, said_text, still_text}
 use Rattle.rh_sheet.specs.Sheet.{is_shown, opening, sheet_end}
 use Rattle.rh_pictures.specs.Painted.{front_lines}
 use Rattle.rh_pictures.specs.PaintedWalks.{TookPaintedRest}
@@ -33,17 +33,17 @@ module _ (line : Text) (long : longest_line < length line) where
       ∷ escape (reply_shown reply) ∷ codes "</pre>\n" ∷ []
       )) (command-kept line long)
 
-  step-kept : (still : Bool) (n : ℕ) (reply : Text) (x : Scene) (notes : List Note) (last : ℕ)
-      → step_text still n (kept line) reply x notes last ≡ step_text still n line reply x notes last
-  step-kept true n reply x notes last =
+  step-kept : (l : Looks) (still : Bool) (n : ℕ) (reply : Text) (x : Scene) (notes : List Note) (last : ℕ)
+      → step_text l still n (kept line) reply x notes last ≡ step_text l still n line reply x notes last
+  step-kept l true n reply x notes last =
       ap (λ said. concat (said ∷ still_text last ∷ said_end ∷ step_end ∷ [])) (said-kept n reply)
-  step-kept false n reply x notes last =
-      ap (λ said. concat (said ∷ changes_text (changes x) ∷ said_end ∷ figure_text x notes n ∷ step_end ∷ [])) (said-kept n reply)
+  step-kept l false n reply x notes last =
+      ap (λ said. concat (said ∷ changes_text (changes x) ∷ said_end ∷ figure_text l x notes n ∷ step_end ∷ [])) (said-kept n reply)
 
   pub happened-kept : (marked : Bool) (x : Walk) (h : Happened) → happened_text marked x (kept line) h ≡ happened_text marked x line h
   happened-kept marked x h =
       ap (λ text. where_so (is_shown marked x x.place.wanted) (opening x ++ text))
-      (step-kept (h.still && not x.place.wanted) (x.place.lines + 1) h.reply h.scene (noted (x.place.lines + 1) h.scene x.notes) x.last)
+      (step-kept x.looks (h.still && not x.place.wanted) (x.place.lines + 1) h.reply h.scene (noted (x.place.lines + 1) h.scene x.notes) x.last)
 
 -- ---- how a sheet shows a line
 

@@ -5,6 +5,7 @@ use Rattle.rh_pictures.proofs.Common.{Share, IsShared, Text, where_so, Before, m
 use Rattle.rh_pictures.proofs.Common.{behind_read, fault_happened, happened_text, read_text, step_text, Painter, PaintStand, happened_at, walk_in}
 use Rattle.rh_defs.specs.declared.reply.Reply.{Reply}
 use Rattle.rh_defs.specs.declared.reply.Reply.TheVariants.{Done}
+use Rattle.rh_pictures.specs.SheetForms.{looks_of}
 use Rattle.rh_pictures.specs.Deeds.{IsLikeReply}
 use Rattle.rh_pictures.proofs.ScriptLemmas.{or-off, or-on, reordered-as, shared-alike}
 use Rattle.rh_figure.specs.Scene.{before_of}
@@ -197,7 +198,8 @@ module _ {D : Type 0} (desk : D → Desk) (m b n : Painter D) (o p : List ℕ) (
   written-moved : (s : Share) → step_written (walk_in desk b) line w (happened s) ≡ shown_step (walk_in desk m) line (happened s)
   written-moved s =
       ap₂ (λ q notes. step_written (walk_at (desk b.drawn) q notes) line w (happened s)) is.progress (is.notes s)
-      ∙ ap (λ v. opening (walk_in desk m) ++ step_text ((happened s).still && not v) (m.progress.lines + 1) line (happened s).reply (happened s).scene
+      ∙ ap (λ v. opening (walk_in desk m)
+      ++ step_text (looks_of m.progress.lens) ((happened s).still && not v) (m.progress.lines + 1) line (happened s).reply (happened s).scene
       (noted (m.progress.lines + 1) (happened s).scene m.notes.items) m.progress.last) wanted
 
   pub took-shown : is_shown m.marked (walk_in desk m) m.progress.wanted ≡ true → WroteStep desk b o p line w happened n

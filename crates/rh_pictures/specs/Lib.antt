@@ -7,6 +7,8 @@ pub mod DrawnReplies
 pub mod DrawnSides
 pub mod DrawnSlides
 pub mod Inner
+pub mod LensContents
+pub mod LensSizes
 pub mod Mapped
 pub mod Painted
 pub mod PaintedBands
@@ -15,4 +17,5 @@ pub mod PaintedProgress
 pub mod PaintedWalks
 pub mod Parts
 pub mod Returns
+pub mod SheetForms
 pub mod Ways

@@ -12,6 +12,8 @@ use Rattle.rh_sheet.specs.declared.note.Note.{Note}
 use Rattle.rh_sheet.specs.SheetLaws.{at_desk}
 use Rattle.rh_sheet.specs.Sheet.{Walk, behind_read, read_text, sheet_lines}
 use Rattle.rh_pictures.specs.PaintedProgress.{PaintStand, stand_first}
+use Rattle.rh_pictures.specs.LensSizes.{LensSize}
+use Rattle.rh_pictures.specs.SheetForms.{SheetForm, looks_of}
 use Rattle.rh_pictures.specs.declared.sheet.painter.Painter.{Painter}
 
 -- where a sheet stands over a desk
@@ -23,21 +25,22 @@ walk_at d p notes = record {
   left = p.left;
   opened = p.opened;
   notes = notes;
+  looks = looks_of p.lens;
 }
 
 -- before the first line
-abbrev pub walk_from : Desk → Walk
-walk_from d = walk_at d stand_first []
+abbrev pub walk_from : Option LensSize → Desk → Walk
+walk_from lens d = walk_at d (stand_first lens) []
 
 -- by the desk that it looks at
 abbrev pub walk_in : {D : Type 0} → (D → Desk) → Painter D → Walk
 walk_in desk m = walk_at (desk m.drawn) m.progress m.notes.items
 
 -- a sheet that has taken no line
-pub record IsFirstPainted {D : Type 0} (m : Painter D) (drawn : D) (marked : Bool) : Type 0 where
+pub record IsFirstPainted {D : Type 0} (m : Painter D) (drawn : D) (form : SheetForm) : Type 0 where
   pub drawn_is : m.drawn ≡ drawn
-  pub marked_is : m.marked ≡ marked
-  pub progress_is : m.progress ≡ stand_first
+  pub marked_is : m.marked ≡ form.marked
+  pub progress_is : m.progress ≡ stand_first form.lens
   pub notes_are : m.notes.items ≡ []
   pub well : m.has_bad_line ≡ false
 

@@ -7,6 +7,7 @@ mod counts;
 mod deeds;
 mod drawn;
 mod excerpt;
+mod lens;
 mod lists;
 mod map;
 mod owners;
@@ -15,5 +16,7 @@ mod walks;
 mod who;
 
 pub use drawn::Drawn;
+pub use lens::size::LensSize;
 pub use map::running::{map_script, map_whole};
+pub use sheet::form::SheetForm;
 pub use sheet::running::{paint_script, paint_whole};

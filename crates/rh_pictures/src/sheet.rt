@@ -7,6 +7,7 @@ pub mod aside;
 pub mod bands;
 pub mod chart;
 pub mod figure;
+pub mod form;
 pub mod letters;
 pub mod modules;
 pub mod notes;

@@ -1,16 +1,17 @@
 //! The sheet of a whole script over a fresh desk.
 
-ghost use Rattle.std.specs.Prelude.{◌≡◌, ◌≤◌, true, IfOk, IsErrOf};
+ghost use Rattle.std.specs.Prelude.{◌≡◌, ◌≤◌, true, IfOk, IfSome, IsErrOf};
 ghost use Rattle.rh_defs.specs.Memory.{fresh};
 ghost use Rattle.rh_defs.specs.Runs.{start};
 ghost use Rattle.rh_defs.specs.declared.sizes.TheConstants.{MAX_PAGES, MIN_PAGES, MOST_READS};
+ghost use Rattle.rh_pictures.specs.LensSizes.{IsLensSize};
 ghost use Rattle.rh_pictures.specs.Painted.{Painted, PaintedSoFar, PaintedUntil};
 
 use crate::native::{give_back, native_memory};
 use crate::world::ScriptWorld;
 use rh_defs::Files;
 use rh_lines::{Sink, Source};
-use rh_pictures::paint_script;
+use rh_pictures::{SheetForm, paint_script};
 use rh_session::{Buffers, RunFault, Status};
 use rh_store::Sited;
 use rh_tasks::{NamedFiles, World};
@@ -24,7 +25,7 @@ pub fn sheet_over<S: Sited + Drop, F: NamedFiles + Drop, R: Source, W: Sink>(
     files: F,
     reader: &mut R,
     writer: &mut W,
-    marked: bool,
+    form: SheetForm,
     name: &[u8],
     buffers: &mut Buffers,
 ) -> Result<Status, RunFault>
@@ -32,9 +33,10 @@ pub fn sheet_over<S: Sited + Drop, F: NamedFiles + Drop, R: Source, W: Sink>(
     requires least { MIN_PAGES ≤ (S.memory store).pages }
     requires most { (S.memory store).pages ≤ MAX_PAGES }
     requires unread { (R.input reader.old).reads ≡ 0 }
+    requires lens { IfSome form.lens IsLensSize }
 
     // The whole script was read, and its sheet was written.
-    ensures ok { IfOk result (λ status. Painted marked name.now (start (S.memory store).pages (F.contents files))
+    ensures ok { IfOk result (λ status. Painted form name.now (start (S.memory store).pages (F.contents files))
         (R.input reader.old) (R.input reader.new) (W.output writer.old) (W.output writer.new) status) }
 
     // It takes no memory.
@@ -43,16 +45,16 @@ pub fn sheet_over<S: Sited + Drop, F: NamedFiles + Drop, R: Source, W: Sink>(
     // The sheet of the complete lines that were read has been written, without its end.
     ensures read_failed { IsErrOf result RunFault.ReadFailed → (R.input reader.new).failed ≡ true }
     ensures read_painted { IsErrOf result RunFault.ReadFailed
-        → PaintedSoFar marked name.now (start (S.memory store).pages (F.contents files)) (R.input reader.old)
+        → PaintedSoFar form name.now (start (S.memory store).pages (F.contents files)) (R.input reader.old)
         (R.input reader.new) (W.output writer.old) (W.output writer.new) }
     ensures too_long { IsErrOf result RunFault.TooLong → ((R.input reader.new).reads ≡ MOST_READS)
         × ((R.input reader.new).failed ≡ (R.input reader.old).failed) }
-    ensures long_painted { IsErrOf result RunFault.TooLong → PaintedSoFar marked name.now (start (S.memory store).pages
+    ensures long_painted { IsErrOf result RunFault.TooLong → PaintedSoFar form name.now (start (S.memory store).pages
         (F.contents files)) (R.input reader.old) (R.input reader.new) (W.output writer.old) (W.output writer.new) }
 
     // The writer failed, and took a front of the sheet of some lines.
     ensures write_failed { IsErrOf result RunFault.WriteFailed
-        → PaintedUntil marked name.now (start (S.memory store).pages (F.contents files)) (R.input reader.old)
+        → PaintedUntil form name.now (start (S.memory store).pages (F.contents files)) (R.input reader.old)
         (R.input reader.new) (W.output writer.old) (W.output writer.new) }
 
     // However it ends, at most so many reads gave bytes.
@@ -60,7 +62,7 @@ pub fn sheet_over<S: Sited + Drop, F: NamedFiles + Drop, R: Source, W: Sink>(
 {
     let mut world = World::new(store, files);
     let world = ScriptWorld { world: &mut world };
-    paint_script(world, marked, name, reader, writer, buffers)
+    paint_script(world, form, name, reader, writer, buffers)
 }
 
 /// Runs a script with a name over a fresh desk of 8 to 1,024 pages, and writes its sheet: its beginning, and each step,
@@ -73,15 +75,16 @@ pub fn draw_sheet<R: Source, W: Sink>(
     reader: &mut R,
     writer: &mut W,
     pages: u32,
-    marked: bool,
+    form: SheetForm,
     name: &[u8],
 ) -> Result<Status, RunFault>
     requires least { MIN_PAGES ≤ pages }
     requires most { pages ≤ MAX_PAGES }
     requires fresh { (R.input reader.old).reads ≡ 0 }
+    requires lens { IfSome form.lens IsLensSize }
 
     // The whole script was read, and its sheet was written.
-    ensures ok { IfOk result (λ status. Painted marked name.now (start pages files) (R.input reader.old)
+    ensures ok { IfOk result (λ status. Painted form name.now (start pages files) (R.input reader.old)
         (R.input reader.new) (W.output writer.old) (W.output writer.new) status) }
 
     // Nothing was read or written.
@@ -91,17 +94,17 @@ pub fn draw_sheet<R: Source, W: Sink>(
     // The sheet of the complete lines that were read has been written, without its end.
     ensures read_failed { IsErrOf result RunFault.ReadFailed → (R.input reader.new).failed ≡ true }
     ensures read_painted { IsErrOf result RunFault.ReadFailed
-        → PaintedSoFar marked name.now (start pages files) (R.input reader.old) (R.input reader.new)
+        → PaintedSoFar form name.now (start pages files) (R.input reader.old) (R.input reader.new)
         (W.output writer.old) (W.output writer.new) }
     ensures too_long { IsErrOf result RunFault.TooLong → ((R.input reader.new).reads ≡ MOST_READS)
         × ((R.input reader.new).failed ≡ (R.input reader.old).failed) }
     ensures long_painted { IsErrOf result RunFault.TooLong
-        → PaintedSoFar marked name.now (start pages files) (R.input reader.old) (R.input reader.new)
+        → PaintedSoFar form name.now (start pages files) (R.input reader.old) (R.input reader.new)
         (W.output writer.old) (W.output writer.new) }
 
     // The writer failed, and took a front of the sheet of some lines.
     ensures write_failed { IsErrOf result RunFault.WriteFailed
-        → PaintedUntil marked name.now (start pages files) (R.input reader.old) (R.input reader.new)
+        → PaintedUntil form name.now (start pages files) (R.input reader.old) (R.input reader.new)
         (W.output writer.old) (W.output writer.new) }
 
     // However it ends, at most so many reads gave bytes.
@@ -110,7 +113,7 @@ pub fn draw_sheet<R: Source, W: Sink>(
     match native_memory(alloc, files, pages) {
         Ok((mut world, mut buffers)) => {
             let desktop = ScriptWorld { world: &mut world };
-            let ended = paint_script(desktop, marked, name, reader, writer, &mut buffers);
+            let ended = paint_script(desktop, form, name, reader, writer, &mut buffers);
             give_back(world, buffers);
             ended
         }

@@ -1,6 +1,6 @@
 //! A whole script that lies in memory, run over a fresh desk: its replies, its map or its sheet.
 
-ghost use Rattle.std.specs.Prelude.{◌≡◌, ◌≤◌, [], length, IfErr, IfOk};
+ghost use Rattle.std.specs.Prelude.{◌≡◌, ◌≤◌, [], length, IfErr, IfOk, IfSome};
 ghost use Rattle.rh_defs.specs.Memory.{fresh};
 ghost use Rattle.rh_defs.specs.Runs.{start};
 ghost use Rattle.rh_defs.specs.Script.{script_text};
@@ -9,13 +9,14 @@ ghost use Rattle.rh_pictures.specs.Mapped.{Mapped, MappedUntil};
 ghost use Rattle.rh_session.specs.declared.feeding.TheConstants.{LONGEST_SCRIPT};
 ghost use Rattle.rh_figure.specs.Map.{map_start};
 ghost use Rattle.rh_lines.specs.Flow.{unread};
+ghost use Rattle.rh_pictures.specs.LensSizes.{IsLensSize};
 ghost use Rattle.rh_pictures.specs.Painted.{Painted, PaintedUntil};
 ghost use Rattle.rh_run.specs.Safely.{RanSafely};
 ghost use Rattle.rh_session.specs.Outcome.{BrokeOff, Finished};
 
 use crate::world::ScriptWorld;
 use rh_lines::{Sink, WriteFailed};
-use rh_pictures::{map_whole, paint_whole};
+use rh_pictures::{SheetForm, map_whole, paint_whole};
 use rh_session::{Status, run_whole};
 use rh_store::{Sited, Store};
 use rh_tasks::{NamedFiles, World};
@@ -83,24 +84,25 @@ pub fn sheet_of<S: Sited + Drop, F: NamedFiles + Drop, W: Sink>(
     files: F,
     script: &[u8],
     writer: &mut W,
-    marked: bool,
+    form: SheetForm,
     name: &[u8],
 ) -> Result<Status, WriteFailed>
     requires fresh { S.memory store ≡ fresh (S.memory store).pages }
     requires least { MIN_PAGES ≤ (S.memory store).pages }
     requires most { (S.memory store).pages ≤ MAX_PAGES }
     requires short { length script.now ≤ LONGEST_SCRIPT }
+    requires lens { IfSome form.lens IsLensSize }
 
     // The script's sheet was written.
-    ensures ok { IfOk result (λ status. Painted marked name.now (start (S.memory store).pages (F.contents files))
+    ensures ok { IfOk result (λ status. Painted form name.now (start (S.memory store).pages (F.contents files))
         (unread script.now) (unread []) (W.output writer.old) (W.output writer.new) status) }
 
     // The writer failed, and took a front of the sheet of some lines.
-    ensures write_failed { IfErr result (λ fault. PaintedUntil marked name.now
+    ensures write_failed { IfErr result (λ fault. PaintedUntil form name.now
         (start (S.memory store).pages (F.contents files)) (unread script.now) (unread []) (W.output writer.old)
         (W.output writer.new)) }
 {
     let mut world = World::new(store, files);
     let world = ScriptWorld { world: &mut world };
-    paint_whole(world, marked, name, script, writer)
+    paint_whole(world, form, name, script, writer)
 }

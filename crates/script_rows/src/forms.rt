@@ -11,6 +11,7 @@ use rh_defs::sizes::PAGE;
 use rh_defs::{Files, Name};
 use rh_lines::{Flagged, Sink, WholeText, WriteFailed};
 use rh_pages::{LISTS, LentBacking, PagedStore};
+use rh_pictures::SheetForm;
 use rh_run::{
     RunFault, Status, draw_map, draw_sheet, map_of, map_over, replies_of, run, run_over, sheet_of,
     sheet_over,
@@ -74,7 +75,15 @@ pub(crate) fn over_own(
         Form::Replies => run(alloc, files, &mut reader, &mut writer, pages),
         Form::Map(marked) => draw_map(alloc, files, &mut reader, &mut writer, pages, marked),
         Form::Sheet(marked) => {
-            draw_sheet(alloc, files, &mut reader, &mut writer, pages, marked, b"It")
+            draw_sheet(
+                alloc,
+                files,
+                &mut reader,
+                &mut writer,
+                pages,
+                SheetForm::at_true_scale(marked),
+                b"It",
+            )
         }
     };
     let text = writer.into_inner();
@@ -133,7 +142,15 @@ pub(crate) fn over_lent(alloc: Global, script: &[u8], form: Form) -> Result<Writ
         Form::Replies => run_over(store, files, &mut reader, &mut writer, lent),
         Form::Map(marked) => map_over(store, files, &mut reader, &mut writer, marked, lent),
         Form::Sheet(marked) => {
-            sheet_over(store, files, &mut reader, &mut writer, marked, b"It", lent)
+            sheet_over(
+                store,
+                files,
+                &mut reader,
+                &mut writer,
+                SheetForm::at_true_scale(marked),
+                b"It",
+                lent,
+            )
         }
     };
     let text = writer.into_inner();
@@ -155,7 +172,14 @@ pub(crate) fn end_over_lent<W: Sink>(
     Ok(match form {
         Form::Replies => replies_of(store, files, script, writer),
         Form::Map(marked) => map_of(store, files, script, writer, marked),
-        Form::Sheet(marked) => sheet_of(store, files, script, writer, marked, b"It"),
+        Form::Sheet(marked) => sheet_of(
+            store,
+            files,
+            script,
+            writer,
+            SheetForm::at_true_scale(marked),
+            b"It",
+        ),
     })
 }
 

@@ -5,6 +5,7 @@ use crate::lines::script;
 use crate::streams::Pieces;
 use rh_defs::Files;
 use rh_lines::Flagged;
+use rh_pictures::SheetForm;
 use rh_run::{RunFault, draw_map, draw_sheet, run};
 use std::alloc::Global;
 use std::io::{self, Write};
@@ -46,7 +47,15 @@ fn later_calls(alloc: Global, script: &[u8], form: Form, good: usize) -> (usize,
         Form::Replies => run(alloc, files, &mut reader, &mut writer, 64),
         Form::Map(marked) => draw_map(alloc, files, &mut reader, &mut writer, 64, marked),
         Form::Sheet(marked) => {
-            draw_sheet(alloc, files, &mut reader, &mut writer, 64, marked, b"It")
+            draw_sheet(
+                alloc,
+                files,
+                &mut reader,
+                &mut writer,
+                64,
+                SheetForm::at_true_scale(marked),
+                b"It",
+            )
         }
     };
     (writer.into_inner().later, ended)

@@ -42,7 +42,7 @@ happened_at d s b c r reply = record { scene = scene_behind d s b c r; reply = r
 -- the text of a step that the sheet stands at
 abbrev pub step_written : Walk → Text → Bool → Happened → Text
 step_written x line wanted h =
-    opening x ++ step_text (h.still && not wanted) x.place.lines line h.reply h.scene x.notes x.last
+    opening x ++ step_text x.looks (h.still && not wanted) x.place.lines line h.reply h.scene x.notes x.last
 
 -- what a sheet has of one line of a script was offered to a pen, with some share of the pool behind it
 pub record DrewLine {D : Type 0} (desk : D → Desk) (m : Painter D) (old : List ℕ) (line : Text) (meaning : Meaning (Option Command)) (n : Painter D) (new : List ℕ) : Type 0 where

@@ -1,17 +1,20 @@
 //! The figure of the module area.
 
-ghost use Rattle.std.specs.Prelude.{◌≡◌, ◌≤◌, ◌++◌, length};
+ghost use Rattle.std.specs.Prelude.{◌≡◌, ◌≤◌, ◌++◌, IfSome, length};
 ghost use Rattle.rh_defs.specs.Heap.{first_place};
 ghost use Rattle.rh_defs.specs.declared.sizes.TheConstants.{MAX_PAGES};
 ghost use Rattle.rh_elements.specs.DrawRows.{plot_of};
-ghost use Rattle.rh_figure.specs.Layout.{module_pieces as module_pieces_of};
 ghost use Rattle.rh_figure.specs.Share.{AreaOf};
+ghost use Rattle.rh_pictures.specs.LensSizes.{IsLensSize};
+ghost use Rattle.rh_pictures.specs.SheetForms.{looks_of};
 ghost use Rattle.rh_sheet.specs.SheetAreas.{module_body, module_description, module_figure, module_frame, module_plot};
 ghost use Rattle.rh_sheet.specs.Markup.{escape};
 ghost use Rattle.rh_sheet.specs.SheetSteps.{module_part};
 ghost use Rattle.rh_scene.specs.Steps.{IsStepOf, scene_at};
 ghost use Rattle.rh_scene.specs.Walks.{census_of};
 
+use crate::lens::modules::print_lens_of_module;
+use crate::lens::size::LensSize;
 use crate::lists::Lists;
 use crate::sheet::areas::print_area_heading;
 use crate::sheet::bands::BandForm;
@@ -33,27 +36,48 @@ use rh_sheet::sizes::{FIGURE_WIDTH, LENS_HEIGHT};
 pub fn print_module_part<S: Sight, P: Pen>(
     sight: &S,
     step: &Step<'_>,
+    lens: Option<LensSize>,
     lists: &mut Lists,
     pen: &mut P,
 )
-    requires { IsStepOf (S.desk sight.now) step.now }
-    ensures { P.offered pen.new ≡ P.offered pen.old ++ module_part (scene_at (S.desk sight.now) step.now) }
+    requires step { IsStepOf (S.desk sight.now) step.now }
+    requires lens { IfSome lens IsLensSize }
+    ensures { P.offered pen.new ≡ P.offered pen.old
+        ++ module_part (looks_of lens) (scene_at (S.desk sight.now) step.now) }
 {
     sight.recall_desk();
     let mut note = Row::new();
     add_pages(&mut note, sight.fixed_pages(MODULE_AREA));
     print_area_heading(MODULE_AREA, &note, pen);
-    module_pieces(sight, step, &mut lists.pieces);
-    print_module_figure(sight, step, lists, pen);
+    print_bytes(sight, step, lens, lists, pen);
 }
 
-/// Writes the figure of the module area, whose pieces stand in their list.
-fn print_module_figure<S: Sight, P: Pen>(sight: &S, step: &Step<'_>, lists: &Lists, pen: &mut P)
+/// Writes what lies in the module area, through a lens or at true scale.
+fn print_bytes<S: Sight, P: Pen>(
+    sight: &S,
+    step: &Step<'_>,
+    lens: Option<LensSize>,
+    lists: &mut Lists,
+    pen: &mut P,
+)
     requires step { IsStepOf (S.desk sight.now) step.now }
-    requires pieces { lists.now.pieces.items ≡ module_pieces_of (scene_at (S.desk sight.now) step.now) }
+    requires lens { IfSome lens IsLensSize }
+    ensures { P.offered pen.new ≡ P.offered pen.old
+        ++ (looks_of lens).module_area (scene_at (S.desk sight.now) step.now) }
+{
+    match lens {
+        Some(size) => print_lens_of_module(sight, step, size, lists, pen),
+        None => print_module_figure(sight, step, lists, pen),
+    }
+}
+
+/// Writes the figure of the module area.
+fn print_module_figure<S: Sight, P: Pen>(sight: &S, step: &Step<'_>, lists: &mut Lists, pen: &mut P)
+    requires { IsStepOf (S.desk sight.now) step.now }
     ensures { P.offered pen.new ≡ P.offered pen.old ++ module_figure (scene_at (S.desk sight.now) step.now) }
 {
     sight.recall_desk();
+    module_pieces(sight, step, &mut lists.pieces);
     let pages = pages_of(sight, step.pages, PagesOf::Fixed(MODULE_AREA));
     let census = take_census(sight, HeapOf::Module, HEAP_FIRST as u32);
     let frame = Frame {

@@ -1,7 +1,7 @@
 //! A sheet in the middle of its script.
 
 ghost use Rattle.std.specs.Prelude.{◌≡◌, ◌≤◌, ◌<◌, ◌+◌, ◌^◌, ◌==◌, ◌&&◌, ◌||◌, ◌++◌, not, nat_lt, ℕ, List, None, Some};
-ghost use Rattle.std.specs.Prelude.{Err, IsTrue, Ok, false, length, true};
+ghost use Rattle.std.specs.Prelude.{Err, IfSome, IsTrue, Ok, false, length, true};
 ghost use Rattle.std.specs.Bool.{OnTrue};
 ghost use Rattle.std.specs.Option.{option_map};
 ghost use Rattle.rh_defs.specs.Line.{line_means, words_of};
@@ -13,7 +13,9 @@ ghost use Rattle.rh_map.specs.Replies.{front_of};
 ghost use Rattle.rh_figure.specs.Scene.{Before, Marks, is_still as is_still_of, scene_of};
 ghost use Rattle.rh_figure.specs.Share.{Share};
 ghost use Rattle.rh_lines.specs.Flow.{Puts};
+ghost use Rattle.rh_pictures.specs.LensSizes.{IsLensSize};
 ghost use Rattle.rh_pictures.specs.PaintedWalks.{IsFirstPainted, walk_in};
+ghost use Rattle.rh_pictures.specs.SheetForms.{looks_of};
 ghost use Rattle.rh_pictures.specs.Inner.Heads.{head_of};
 ghost use Rattle.rh_pictures.specs.Inner.PaintedSteps.{DrewLine, DrewRest, LeftStep, TookStep, WroteStep, happened_at};
 ghost use Rattle.rh_session.specs.Outcome.{status_of};
@@ -29,6 +31,7 @@ use crate::deeds::{Above, Deed, and_not, answer, change, is_wanted, rest_fault, 
 use crate::drawn::Drawn;
 use crate::excerpt::excerpt_fault;
 use crate::lists::Lists;
+use crate::sheet::form::SheetForm;
 use crate::sheet::notes::{Notes, note_step};
 use crate::sheet::progress::Progress;
 use crate::sheet::steps::{print_rest, print_step};
@@ -60,14 +63,15 @@ pub struct Painter<D> {
 
 impl<D: Drawn> Painter<D> {
     /// A sheet that has taken no line.
-    pub fn new(drawn: D, marked: bool) -> Painter<D>
-        ensures { IsFirstPainted result drawn marked }
+    pub fn new(drawn: D, form: SheetForm) -> Painter<D>
+        requires { IfSome form.lens IsLensSize }
+        ensures { IsFirstPainted result drawn form }
     {
         Painter {
             drawn,
-            marked,
+            marked: form.marked,
             has_bad_line: false,
-            progress: Progress::new(),
+            progress: Progress::new(form.lens),
             notes: ArrayVec::new(),
             messages: ArrayVec::new(),
             pages: ArrayVec::new(),
@@ -282,6 +286,7 @@ impl<D: Drawn> Painter<D> {
             &above,
             &self.notes,
             self.progress.last(),
+            self.progress.lens(),
             &mut self.lists,
             pen,
         );

@@ -1,16 +1,19 @@
 //! How far a sheet has come.
 
-ghost use Rattle.std.specs.Prelude.{◌≡◌, ◌≤◌, ◌<◌, ◌+◌, ◌^◌, ◌&&◌, ◌||◌, nat_lt, not, true, false, if◌then◌else◌};
+ghost use Rattle.std.specs.Prelude.{◌≡◌, ◌≤◌, ◌<◌, ◌+◌, ◌^◌, ◌&&◌, ◌||◌, nat_lt, not, true, false};
+ghost use Rattle.std.specs.Prelude.{IfSome, if◌then◌else◌};
 ghost use Rattle.std.specs.Bool.{OnTrue};
+ghost use Rattle.rh_pictures.specs.LensSizes.{IsLensSize};
 ghost use Rattle.rh_sheet.specs.declared.sizes.TheConstants.{MOST_STEPS};
 
 use crate::deeds::and_not;
+use crate::lens::size::LensSize;
 use rh_sheet::sizes::MOST_STEPS;
 use std::marker::Model;
 
 /// How far a sheet has come: how many lines are behind it, and whether a mark was seen since the last command; how many
 /// commands are shown, which of those has the last figure, 0 for none, and how many are left out; and whether a remark
-/// has begun the next step.
+/// has begun the next step. Through all steps areas are drawn through one lens, or at true scale.
 #[derive(Drop)]
 pub struct Progress {
     lines: u32,
@@ -19,10 +22,12 @@ pub struct Progress {
     last: u32,
     left: u32,
     opened: bool,
+    lens: Option<LensSize>,
 }
 
 impl Model for Progress {
-    ghost use Rattle.std.specs.Prelude.{◌≤◌, ◌+◌, if◌then◌else◌};
+    ghost use Rattle.std.specs.Prelude.{◌≤◌, ◌+◌, IfSome, if◌then◌else◌};
+    ghost use Rattle.rh_pictures.specs.LensSizes.{IsLensSize};
     ghost use Rattle.rh_pictures.specs.PaintedProgress.{PaintStand};
     ghost use Rattle.rh_sheet.specs.declared.sizes.TheConstants.{MOST_STEPS};
 
@@ -35,17 +40,20 @@ impl Model for Progress {
       last = s.last;
       left = s.left;
       opened = s.opened;
+      lens = s.lens;
     } };
 
-    ghost invariant = { λ s. ((if s.opened then s.shown + 1 else s.shown) ≤ MOST_STEPS) × (s.left ≤ s.lines) };
+    ghost invariant = { λ s. ((if s.opened then s.shown + 1 else s.shown) ≤ MOST_STEPS) × ((s.left ≤ s.lines)
+        × IfSome s.lens IsLensSize) };
 }
 
 impl Progress {
     ghost use Rattle.rh_pictures.specs.PaintedProgress.{stand_first, stand_shown};
 
     /// Before the first line.
-    pub fn new() -> Progress
-        ensures { result ≡ stand_first }
+    pub fn new(lens: Option<LensSize>) -> Progress
+        requires { IfSome lens IsLensSize }
+        ensures { result ≡ stand_first lens }
     {
         Progress {
             lines: 0,
@@ -54,7 +62,16 @@ impl Progress {
             last: 0,
             left: 0,
             opened: false,
+            lens,
         }
+    }
+
+    /// The lens through which areas are drawn, if there is one.
+    pub fn lens(&self) -> Option<LensSize>
+        ensures value { result ≡ self.now.lens }
+        ensures size { IfSome result IsLensSize }
+    {
+        self.lens
     }
 
     /// How many lines are behind it.

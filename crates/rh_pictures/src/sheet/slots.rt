@@ -1,6 +1,6 @@
 //! The figures of slots.
 
-ghost use Rattle.std.specs.Prelude.{◌≡◌, ◌<◌, ◌++◌, length, slice_get, Some};
+ghost use Rattle.std.specs.Prelude.{◌≡◌, ◌<◌, ◌++◌, IfSome, length, slice_get, Some};
 ghost use Rattle.std.specs.List.{AllByRecursion, flat_map};
 ghost use Rattle.rh_defs.specs.Desk.{Task};
 ghost use Rattle.rh_defs.specs.Slot.{anchor_count, slot_length};
@@ -9,6 +9,8 @@ ghost use Rattle.rh_elements.specs.DrawRows.{plot_of};
 ghost use Rattle.rh_figure.specs.Figure.{slot_note};
 ghost use Rattle.rh_figure.specs.Scene.{Scene};
 ghost use Rattle.rh_pictures.specs.Inner.Figures.{IsSlotPlan};
+ghost use Rattle.rh_pictures.specs.LensSizes.{IsLensSize};
+ghost use Rattle.rh_pictures.specs.SheetForms.{looks_of};
 ghost use Rattle.rh_sheet.specs.SheetAreas.{slot_body, slot_description, slot_figure, slot_lenses, slot_plot};
 ghost use Rattle.rh_sheet.specs.SheetAreas.{ticks_text};
 ghost use Rattle.rh_sheet.specs.Markup.{escape, heading_text};
@@ -17,6 +19,8 @@ ghost use Rattle.rh_scene.specs.Seen.{IsTaskSeen};
 ghost use Rattle.rh_scene.specs.Steps.{IsStepOf, scene_at};
 
 use crate::counts::count_tasks;
+use crate::lens::size::LensSize;
+use crate::lens::slots::print_lens_of_slot;
 use crate::lists::Lists;
 use crate::sheet::arrows::print_arrow_of;
 use crate::sheet::bands::BandForm;
@@ -50,16 +54,23 @@ struct Plan<'a> {
 }
 
 /// Writes the heading of each slot, in order of handle, and its figure where it is drawn.
-pub fn print_slots<S: Sight, P: Pen>(sight: &S, step: &Step<'_>, lists: &mut Lists, pen: &mut P)
-    requires { IsStepOf (S.desk sight.now) step.now }
+pub fn print_slots<S: Sight, P: Pen>(
+    sight: &S,
+    step: &Step<'_>,
+    lens: Option<LensSize>,
+    lists: &mut Lists,
+    pen: &mut P,
+)
+    requires step { IsStepOf (S.desk sight.now) step.now }
+    requires lens { IfSome lens IsLensSize }
     ensures { let x = scene_at (S.desk sight.now) step.now in
-        P.offered pen.new ≡ P.offered pen.old ++ flat_map (slot_part x) x.desk.tasks }
+        P.offered pen.new ≡ P.offered pen.old ++ flat_map (slot_part (looks_of lens) x) x.desk.tasks }
 {
     sight.recall_desk();
     let tasks = count_tasks(sight);
     let mut i = 0;
     'tasks: while let Some(task) = sight.task(i) {
-        print_slot(sight, step, tasks, i, &task, lists, pen);
+        print_slot(sight, step, tasks, i, &task, lens, lists, pen);
         i += 1;
     }
 }
@@ -71,21 +82,46 @@ fn print_slot<S: Sight, P: Pen>(
     tasks: usize,
     i: usize,
     task: &TaskSight<'_>,
+    lens: Option<LensSize>,
     lists: &mut Lists,
     pen: &mut P,
 )
     requires step { IsStepOf (S.desk sight.now) step.now }
     requires tasks { tasks ≡ length (S.desk sight.now).tasks }
+    requires lens { IfSome lens IsLensSize }
     requires task { (t : Task) × (slice_get (S.desk sight.now).tasks i ≡ Some t) × IsTaskSeen task.now t }
     ensures { (t : Task) → slice_get (S.desk sight.now).tasks i ≡ Some t →
-        P.offered pen.new ≡ P.offered pen.old ++ slot_part (scene_at (S.desk sight.now) step.now) t }
+        P.offered pen.new ≡ P.offered pen.old
+        ++ slot_part (looks_of lens) (scene_at (S.desk sight.now) step.now) t }
 {
     sight.recall_desk();
     print_slot_heading(task, pen);
     if !is_drawn(step, tasks, task.handle) {
         return;
     }
-    print_figure(sight, step, i, task, lists, pen);
+    print_bytes(sight, step, i, task, lens, lists, pen);
+}
+
+/// Writes what lies in the slot of a task, through a lens or at true scale.
+fn print_bytes<S: Sight, P: Pen>(
+    sight: &S,
+    step: &Step<'_>,
+    i: usize,
+    task: &TaskSight<'_>,
+    lens: Option<LensSize>,
+    lists: &mut Lists,
+    pen: &mut P,
+)
+    requires step { IsStepOf (S.desk sight.now) step.now }
+    requires task { (t : Task) × (slice_get (S.desk sight.now).tasks i ≡ Some t) × IsTaskSeen task.now t }
+    requires lens { IfSome lens IsLensSize }
+    ensures { (t : Task) → slice_get (S.desk sight.now).tasks i ≡ Some t → P.offered pen.new ≡ P.offered pen.old
+        ++ (looks_of lens).slot (scene_at (S.desk sight.now) step.now) t }
+{
+    match lens {
+        Some(size) => print_lens_of_slot(sight, step, i, task, size, lists, pen),
+        None => print_figure(sight, step, i, task, lists, pen),
+    }
 }
 
 /// Writes the heading of a task's slot.

@@ -22,15 +22,15 @@ take_census-census-requires g c =
 
 pub print_description-requires-clause-pages : goal.print_description-requires-clause-pages
 print_description-requires-clause-pages g c =
-    owned c.recall_desk.ensures c.args.step.now.pages.now c.requires.step.shared (pages.Fixed 1) (AreaOf 1) c.pages_of-pages.result.now
+    owned c.recall_desk.ensures c.args.step.now.pages.now c.requires.shared (pages.Fixed 1) (AreaOf 1) c.pages_of-pages.result.now
     (seen-fixed c.recall_desk.ensures 1 (omega arith)) c.pages_of-pages.ensures
 
 pub print_description-requires-clause-few : goal.print_description-requires-clause-few
 print_description-requires-clause-few g c =
     let ps = c.args.step.now.pages.now in
     let seen = seen-fixed c.recall_desk.ensures 1 (omega arith) in
-    let is = owned c.recall_desk.ensures ps c.requires.step.shared (pages.Fixed 1) (AreaOf 1) c.pages_of-pages.result.now seen c.pages_of-pages.ensures in
-    omega (arith, ap length is, owned-few c.recall_desk.ensures ps c.requires.step.shared (pages.Fixed 1) (AreaOf 1) seen c.requires.step.all)
+    let is = owned c.recall_desk.ensures ps c.requires.shared (pages.Fixed 1) (AreaOf 1) c.pages_of-pages.result.now seen c.pages_of-pages.ensures in
+    omega (arith, ap length is, owned-few c.recall_desk.ensures ps c.requires.shared (pages.Fixed 1) (AreaOf 1) seen c.requires.all)
 
 pub print_body-requires-clause-frame : goal.print_body-requires-clause-frame
 print_body-requires-clause-frame g c =
@@ -38,7 +38,7 @@ print_body-requires-clause-frame g c =
     let x = scene_at d c.args.step.now in
     let ps = c.args.step.now.pages.now in
     let seen = seen-fixed c.recall_desk.ensures 1 (omega arith) in
-    let is = owned c.recall_desk.ensures ps c.requires.step.shared (pages.Fixed 1) (AreaOf 1) c.pages_of-pages.result.now seen c.pages_of-pages.ensures in
+    let is = owned c.recall_desk.ensures ps c.requires.shared (pages.Fixed 1) (AreaOf 1) c.pages_of-pages.result.now seen c.pages_of-pages.ensures in
     let census = c.take_census-census.ensures d.post.heap.segments (from-first d.post.heap refl) in
     let rows : c.rows_for.result ≡ rows_for x (AreaOf 1) = c.rows_for.ensures ∙ ap (λ (found : List ℕ). min 1024 (max (length found) (count_of
     (AreaOf 1) x.before.holdings))) is in
@@ -49,9 +49,9 @@ print_body-requires-clause-frame g c =
 
 pub print_body-requires-clause-plot : goal.print_body-requires-clause-plot
 print_body-requires-clause-plot g c =
-    let is = owned c.recall_desk.ensures c.args.step.now.pages.now c.requires.step.shared (pages.Fixed 1) (AreaOf 1) c.pages_of-pages.result.now
+    let is = owned c.recall_desk.ensures c.args.step.now.pages.now c.requires.shared (pages.Fixed 1) (AreaOf 1) c.pages_of-pages.result.now
     (seen-fixed c.recall_desk.ensures 1 (omega arith)) c.pages_of-pages.ensures in
-    ap₂ plot_with is (c.deref.ensures.0 ∙ c.requires.pieces)
+    ap₂ plot_with is (c.deref.ensures.0 ∙ c.module_pieces.ensures)
 
 pub print_body-requires-clause-census : goal.print_body-requires-clause-census
 print_body-requires-clause-census g c =
@@ -64,7 +64,7 @@ returns g c =
     let x = scene_at d c.args.step.now in
     let ps = c.args.step.now.pages.now in
     let seen = seen-fixed c.recall_desk.ensures 1 (omega arith) in
-    let is = owned c.recall_desk.ensures ps c.requires.step.shared (pages.Fixed 1) (AreaOf 1) c.pages_of-pages.result.now seen c.pages_of-pages.ensures in
+    let is = owned c.recall_desk.ensures ps c.requires.shared (pages.Fixed 1) (AreaOf 1) c.pages_of-pages.result.now seen c.pages_of-pages.ensures in
     let census = c.take_census-census.ensures d.post.heap.segments (from-first d.post.heap refl) in
     let rows : c.rows_for.result ≡ rows_for x (AreaOf 1) = c.rows_for.ensures ∙ ap (λ (found : List ℕ). min 1024 (max (length found) (count_of
     (AreaOf 1) x.before.holdings))) is in

@@ -8,7 +8,7 @@ use Rattle.rh_pictures.proofs.sheet.running.paint_script.Goals as goal
 pub returns-then-is_err-clause-write_failed : goal.returns-then-is_err-clause-write_failed
 returns-then-is_err-clause-write_failed g c = λ e d h.
     let input = g.R.Source.input c.args.reader.now in
-    painted-head c.args.marked c.args.name.now d input input [] (Consumes-none input.left)
+    painted-head c.args.form c.args.name.now d input input [] (Consumes-none input.left)
     (broke-off g.D.Sight.desk d (g.met.D.Drawn.alike _ d h) c.args.name.now c.new-painter.result c.begin.new.self c.new-painter.ensures c.begin.result
     (sym c.is_err.ensures.value ∙ c.if-is_err.true) c.begin.ensures.text)
 

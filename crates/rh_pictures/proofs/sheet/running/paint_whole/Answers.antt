@@ -8,7 +8,7 @@ pub returns-in_err-begin-clause-write_failed : goal.returns-in_err-begin-clause-
 returns-in_err-begin-clause-write_failed g c =
     let script = c.args.script.now in
     if_err c.from_residual.result (λ e d h.
-    painted-head c.args.marked c.args.name.now d (unread script) (unread []) script (sym (append-nil script))
+    painted-head c.args.form c.args.name.now d (unread script) (unread []) script (sym (append-nil script))
     (broke-off g.D.Sight.desk d (g.met.D.Drawn.alike _ d h) c.args.name.now c.new-painter.result c.begin.new.self c.new-painter.ensures
     (Err c.in_err-begin.field-0.0) refl c.in_err-begin.ensures.text))
 

@@ -1,4 +1,5 @@
 use Rattle.rh_pictures.proofs.Common.{refl, arith, flat_map, slice_get_within, left_less, left_none, slot_part, scene_at}
+use Rattle.rh_pictures.specs.SheetForms.{looks_of}
 use Rattle.rh_pictures.proofs.TextWalks.{text-none, text-some}
 use Rattle.rh_pictures.proofs.PlaceLemmas.{walk-less}
 use Rattle.rh_pictures.proofs.sheet.slots.print_slots.Goals as goal
@@ -8,14 +9,15 @@ tasks-preserved g c =
     let d = g.S.Sight.desk c.args.sight.now in
     let x = scene_at d c.args.step.now in
     let r = c.in-Some.ensures.some in
-    left_less _ c.tasks.invariant (text-some (flat_map (slot_part x)) (slot_part x) (λ t rest. refl) d.tasks c.tasks.i r.0 r.1)
+    left_less _ c.tasks.invariant
+    (text-some (flat_map (slot_part (looks_of c.args.lens) x)) (slot_part (looks_of c.args.lens) x) (λ t rest. refl) d.tasks c.tasks.i r.0 r.1)
     (c.print_slot.ensures r.0 r.1)
 
 pub returns : goal.returns
 returns g c =
     let d = g.S.Sight.desk c.args.sight.now in
     let x = scene_at d c.args.step.now in
-    left_none c.tasks.invariant (text-none (flat_map (slot_part x)) refl d.tasks c.tasks.i c.in_default.ensures.none)
+    left_none c.tasks.invariant (text-none (flat_map (slot_part (looks_of c.args.lens) x)) refl d.tasks c.tasks.i c.in_default.ensures.none)
 
 pub overflow_add-i : goal.overflow_add-i
 overflow_add-i g c =

@@ -3,6 +3,7 @@ use Rattle.rh_pictures.specs.DrawnReplies.{Excerpts}
 use Rattle.rh_scene.specs.SightPages.{share_in}
 use Rattle.rh_scene.specs.Steps.{marks_seen}
 use Rattle.rh_pictures.specs.PaintedProgress.{stand_shown}
+use Rattle.rh_pictures.specs.SheetForms.{looks_of}
 use Rattle.rh_pictures.proofs.TextPuts.{text_then}
 use Rattle.rh_pictures.proofs.sheet.painter.Painter.show.Goals as goal
 
@@ -18,8 +19,11 @@ returns-clause-text g c = λ text excerpt.
     let P : List ℕ → Type 0 = λ z. Excerpts z deed.count text in
     let scene = ap₂ (λ pages kept. scene_of d (share_in pages d) kept (marks_seen step.marks)) is.pages is.kept
     ∙ ap (scene_of d (share_in c.page_list.new.list.items d) deed.kept.now) is.marks in
-    let words = ap₂ (λ n last. step_text c.and_not.result n c.args.line.now text (scene_at d step) m.notes.items last) c.lines.ensures c.last.ensures
-    ∙ ap₂ (λ b x. step_text b m.progress.lines c.args.line.now text x m.notes.items m.progress.last) still scene in
+    let words = ap (λ lens. step_text (looks_of lens) c.and_not.result c.lines.result c.args.line.now text (scene_at d step) m.notes.items c.last.result)
+    c.lens.ensures.value
+    ∙ (ap₂ (λ n last. step_text (looks_of m.progress.lens) c.and_not.result n c.args.line.now text (scene_at d step) m.notes.items last) c.lines.ensures
+    c.last.ensures
+    ∙ ap₂ (λ b x. step_text (looks_of m.progress.lens) b m.progress.lines c.args.line.now text x m.notes.items m.progress.last) still scene) in
     record {
       share = share_in c.page_list.new.list.items d;
       shared = c.page_list.ensures.shared;
