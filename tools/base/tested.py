@@ -11,8 +11,8 @@ import time
 import outcome
 
 NAME = "vervainfile"
-# How many browsers share the tests of the page.
-SHARES = 3
+# How many browsers share the tests of the page, and how many the sheets of the examples.
+SHARES, SHEET_SHARES = 3, 2
 # A part that hangs is ended after so many seconds.
 LONGEST = 1800
 LEFT_OUT = "left out"
@@ -54,8 +54,10 @@ def parts_of(top, build, is_dist):
     tests = f"{top}/tools/tests/test-"
     pages = [Part(f"page-{it}", [f"{top}/bin/web", "test", build.page, "--program", build.program, "--share",
                                  f"{it}/{SHARES}"], True) for it in range(1, SHARES + 1)]
+    sheets = [Part(f"sheets-{it}", [f"{top}/bin/look", "--share", f"{it}/{SHEET_SHARES}", f"{top}/examples"])
+              for it in range(1, SHEET_SHARES + 1)]
     return [
-        Part("sheets", [f"{top}/bin/look", f"{top}/examples"]),
+        *sheets,
         *pages,
         Part("library", [f"{tests}library", build.library]),
         Part("machines", [f"{tests}machines", build.library], True),
@@ -65,7 +67,7 @@ def parts_of(top, build, is_dist):
         Part("rows", [f"{tests}rows", build.program]),
         Part("header", [sys.executable, f"{top}/tools/base/header.py", top]),
         Part("examples", [f"{top}/examples/check", build.program]),
-        Part("pictures", [f"{tests}program", build.program, "maps", "drawings", "figures"]),
+        Part("pictures", [f"{tests}program", build.program, "maps", "drawings", "figures", "lenses", "lens_words"]),
         Part("words", [f"{tests}program", build.program, "words", "completions", "calls", "files", "images",
                        "scripts", "outputs"]),
         Part("documents", [f"{tests}docs", build.program]),

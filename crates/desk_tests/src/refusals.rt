@@ -139,7 +139,7 @@ error: unrecognized subcommand 'walk'
 Usage: vervainfile run [--pages N] SCRIPT [NAME=PATH ...]
        vervainfile explain [--pages N] SCRIPT [NAME=PATH ...]
        vervainfile map [--pages N] [--marked] SCRIPT [NAME=PATH ...]
-       vervainfile draw [--pages N] [--marked] SCRIPT [NAME=PATH ...]
+       vervainfile draw [--pages N] [--marked] [--lens] SCRIPT [NAME=PATH ...]
        vervainfile check [--slot] FILE
        vervainfile help COMMAND  (one of these, or of a script, as alloc)
        vervainfile               (with no words: the script on standard input)
@@ -161,7 +161,7 @@ The memory of a desktop, shared by its tasks
 Usage: vervainfile run [--pages N] SCRIPT [NAME=PATH ...]
        vervainfile explain [--pages N] SCRIPT [NAME=PATH ...]
        vervainfile map [--pages N] [--marked] SCRIPT [NAME=PATH ...]
-       vervainfile draw [--pages N] [--marked] SCRIPT [NAME=PATH ...]
+       vervainfile draw [--pages N] [--marked] [--lens] SCRIPT [NAME=PATH ...]
        vervainfile check [--slot] FILE
        vervainfile help COMMAND  (one of these, or of a script, as alloc)
        vervainfile               (with no words: the script on standard input)

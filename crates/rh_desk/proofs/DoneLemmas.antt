@@ -19,6 +19,7 @@ use Rattle.rh_session.specs.declared.status.Status.{Status}
 use Rattle.rh_session.specs.declared.status.Status.TheVariants as status
 use Rattle.clap.specs.Words.{Row, Text, fault_of, subcommand_of}
 use Rattle.clap.specs.declared.error.kind.ErrorKind.TheVariants as kind
+use Rattle.rh_pictures.specs.declared.sheet.form.SheetForm.{SheetForm}
 use Rattle.rh_desk.specs.CommandLine.{program_words}
 use Rattle.rh_desk.specs.Done.{CheckOver, ExplainOver}
 use Rattle.rh_desk.specs.Done.{FileOver, IsWhole, MapOver, RequestEnds, RunEnds, RunOver, SheetOver, ShownOver, Streams, Untouched}
@@ -158,25 +159,25 @@ map-over marked d s (Err TooLong) ok memory read mapped long so_far broke quiet 
 map-over marked d s (Err WriteFailed) ok memory read mapped long so_far broke quiet errors = (WriteFailed, broke refl, errors WriteFailed refl)
 
 -- how a sheet ends the program
-pub sheet-over : (marked : Bool) (name : List ℕ) (d : Desk) (s : Streams) (outcome : Result Status RunFault)
-    → IfOk outcome (λ status. Painted marked name d s.before s.after s.old s.new status)
+pub sheet-over : (form : SheetForm) (name : List ℕ) (d : Desk) (s : Streams) (outcome : Result Status RunFault)
+    → IfOk outcome (λ status. Painted form name d s.before s.after s.old s.new status)
     → (IsErrOf outcome NoMemory → (s.after ≡ s.before) × (s.new ≡ s.old))
     → (IsErrOf outcome ReadFailed → s.after.failed ≡ true)
-    → (IsErrOf outcome ReadFailed → PaintedSoFar marked name d s.before s.after s.old s.new)
+    → (IsErrOf outcome ReadFailed → PaintedSoFar form name d s.before s.after s.old s.new)
     → (IsErrOf outcome TooLong → (s.after.reads ≡ MOST_READS) × (s.after.failed ≡ s.before.failed))
-    → (IsErrOf outcome TooLong → PaintedSoFar marked name d s.before s.after s.old s.new)
-    → (IsErrOf outcome WriteFailed → PaintedUntil marked name d s.before s.after s.old s.new)
+    → (IsErrOf outcome TooLong → PaintedSoFar form name d s.before s.after s.old s.new)
+    → (IsErrOf outcome WriteFailed → PaintedUntil form name d s.before s.after s.old s.new)
     → ((status : Status) → outcome ≡ Ok status → s.errors_new ≡ s.errors_old)
     → ((fault : RunFault) → outcome ≡ Err fault → Tells s.errors_old s.errors_new (run_fault_text fault))
-    → SheetOver marked name d s (ending_of outcome)
-sheet-over marked name d s (Ok status.Clean) ok memory read painted long so_far broke quiet errors = (ok, quiet status.Clean refl)
-sheet-over marked name d s (Ok status.BadLines) ok memory read painted long so_far broke quiet errors = (ok, quiet status.BadLines refl)
-sheet-over marked name d s (Err NoMemory) ok memory read painted long so_far broke quiet errors = (NoMemory, memory refl, errors NoMemory refl)
-sheet-over marked name d s (Err ReadFailed) ok memory read painted long so_far broke quiet errors =
+    → SheetOver form name d s (ending_of outcome)
+sheet-over form name d s (Ok status.Clean) ok memory read painted long so_far broke quiet errors = (ok, quiet status.Clean refl)
+sheet-over form name d s (Ok status.BadLines) ok memory read painted long so_far broke quiet errors = (ok, quiet status.BadLines refl)
+sheet-over form name d s (Err NoMemory) ok memory read painted long so_far broke quiet errors = (NoMemory, memory refl, errors NoMemory refl)
+sheet-over form name d s (Err ReadFailed) ok memory read painted long so_far broke quiet errors =
     (ReadFailed, (read refl, painted refl), errors ReadFailed refl)
-sheet-over marked name d s (Err TooLong) ok memory read painted long so_far broke quiet errors =
+sheet-over form name d s (Err TooLong) ok memory read painted long so_far broke quiet errors =
     (TooLong, ((long refl).0, (long refl).1, so_far refl), errors TooLong refl)
-sheet-over marked name d s (Err WriteFailed) ok memory read painted long so_far broke quiet errors = (WriteFailed, broke refl, errors WriteFailed refl)
+sheet-over form name d s (Err WriteFailed) ok memory read painted long so_far broke quiet errors = (WriteFailed, broke refl, errors WriteFailed refl)
 
 check-ends : (k : ImageKind) (bytes : List ℕ) (s : Streams) (outcome : Result Status RunFault)
     → IfOk outcome (λ status. Takes s.old s.new (line_as k bytes))

@@ -4,7 +4,7 @@ use Rattle.std.proofs.Common.{Err, Bor, option_map, unwrap_or}
 use Rattle.std.specs.Str.Parse.{ParsesUnsigned}
 use Rattle.clap.specs.Words.{ReadsOne, Row, Text, first_of, one_of}
 use Rattle.rh_desk.specs.declared.command_line.TheConstants.{PAGES}
-use Rattle.rh_desk.specs.Requests.{AsksFor, AsksKind, AsksMarked, AsksPages}
+use Rattle.rh_desk.specs.Requests.{AsksLens, AsksFor, AsksKind, AsksMarked, AsksPages}
 use Rattle.rh_desk.specs.declared.request.ImageKind.TheVariants.{Heap, Slot}
 use Rattle.rh_desk.specs.declared.request.Request.{Request}
 use Rattle.rh_desk.specs.declared.request.Request.TheVariants.{Check, Run}
@@ -42,6 +42,17 @@ pub marks-asked : (text : Option Text) (flag : Bool) → (text ≡ None → flag
     → (text ≡ Some (codes "false") → flag ≡ false) → AsksMarked text flag
 marks-asked None flag none value other = none refl
 marks-asked (Some t) flag none value other = (λ yes. value (ap Some yes), λ no. other (ap Some no))
+
+-- a lens is asked for where the flag was found
+pub lens-asked : (text : Option Text) (flag : Bool) → (text ≡ None → flag ≡ false) → (text ≡ Some (codes "false") → flag ≡ false) → flag ≡ true
+    → AsksLens text (Some (record { width = 960; scale = 16 }))
+lens-asked None flag none other is = absurd (let no = none refl in cc)
+lens-asked (Some t) flag none other is = (λ yes. refl, λ no. absurd (let is_false = other (ap Some no) in cc))
+
+-- and true scale where it wasn't
+pub no-lens-asked : (text : Option Text) (flag : Bool) → (text ≡ Some (codes "true") → flag ≡ true) → flag ≡ false → AsksLens text None
+no-lens-asked None flag value is = refl
+no-lens-asked (Some t) flag value is = (λ yes. absurd (let is_true = value (ap Some yes) in cc), λ no. refl)
 
 -- the words that are found, where there are any
 pub words-are : (found : Option (Bor (List (Bor Text)))) (others : Bor (List (Bor Text))) (all : Option (List Text))

@@ -1,5 +1,5 @@
--- What the program's words may be: `run [--pages N] SCRIPT [NAME=PATH ...]`, `explain` with the same words, `map` and
--- `draw` with these and `--marked`, and `check [--slot] FILE`.
+-- What the program's words may be: `run [--pages N] SCRIPT [NAME=PATH ...]`, `explain` with the same words, `map` with
+-- these and `--marked`, `draw` with `--lens` besides, and `check [--slot] FILE`.
 use Rattle.std.specs.Prelude.{Some, codes, pos, true}
 use Rattle.clap.specs.Lexer.{usize_max}
 use Rattle.clap.specs.Simple.{App, new_app, new_rule, on_top, with_rule, with_subcommand}
@@ -41,6 +41,15 @@ abbrev pub picture_words : Text → App
 picture_words name =
     with_rule (with_rule (with_rule (with_rule (new_app name) pages_rule) marked_rule) (needed_rule (codes "script"))) files_rule
 
+-- `--lens`
+abbrev pub lens_rule : Rule
+lens_rule = record (new_rule (codes "lens")) { long = Some (codes "lens"); action = Some SetTrue }
+
+-- the words of a sheet of a script
+abbrev pub draw_words : App
+draw_words = with_rule (with_rule (with_rule (with_rule (with_rule (new_app (codes "draw")) pages_rule) marked_rule) lens_rule)
+    (needed_rule (codes "script"))) files_rule
+
 -- `--slot`
 abbrev pub slot_rule : Rule
 slot_rule = record (new_rule (codes "slot")) { long = Some (codes "slot"); action = Some SetTrue }
@@ -54,4 +63,4 @@ program_top = on_top (λ shape. record shape { has_version = true; subcommand_re
 
 abbrev pub program_words : App
 program_words =
-    with_subcommand (with_subcommand (with_subcommand (with_subcommand (with_subcommand program_top (script_words (codes "run")).top) (script_words (codes "explain")).top) (picture_words (codes "map")).top) (picture_words (codes "draw")).top) check_words.top
+    with_subcommand (with_subcommand (with_subcommand (with_subcommand (with_subcommand program_top (script_words (codes "run")).top) (script_words (codes "explain")).top) (picture_words (codes "map")).top) draw_words.top) check_words.top

@@ -9,6 +9,7 @@ use Rattle.rh_defs.specs.Desk.{Desk}
 use Rattle.rh_pictures.specs.Mapped.{Mapped, MappedSoFar, MappedUntil}
 use Rattle.rh_figure.specs.Map.{place}
 use Rattle.rh_pictures.specs.Painted.{Painted, PaintedSoFar, PaintedUntil}
+use Rattle.rh_pictures.specs.declared.sheet.form.SheetForm.{SheetForm}
 use Rattle.rh_defs.specs.Files.{FileList}
 use Rattle.rh_defs.specs.Runs.{start}
 use Rattle.rh_defs.specs.declared.sizes.TheConstants.{LONGEST_FILE, MOST_READS}
@@ -94,25 +95,25 @@ MapOver marked d s BadLines =
 MapOver marked d s WrongWords = ⊥
 MapOver marked d s Fault = (fault : RunFault) × MapStopped marked d s fault × Tells s.errors_old s.errors_new (run_fault_text fault)
 
--- what was read and written where a fault stopped a sheet with a name, of which marked steps alone may be shown
-abbrev pub SheetStopped : Bool → List ℕ → Desk → Streams → RunFault → Type 0
-SheetStopped marked name d s NoMemory = Untouched s
-SheetStopped marked name d s ReadFailed =
-    (s.after.failed ≡ true) × PaintedSoFar marked name d s.before s.after s.old s.new
-SheetStopped marked name d s TooLong =
+-- what was read and written where a fault stopped a sheet with a name, in a form
+abbrev pub SheetStopped : SheetForm → List ℕ → Desk → Streams → RunFault → Type 0
+SheetStopped form name d s NoMemory = Untouched s
+SheetStopped form name d s ReadFailed =
+    (s.after.failed ≡ true) × PaintedSoFar form name d s.before s.after s.old s.new
+SheetStopped form name d s TooLong =
     (s.after.reads ≡ MOST_READS) × (s.after.failed ≡ s.before.failed)
-    × PaintedSoFar marked name d s.before s.after s.old s.new
-SheetStopped marked name d s WriteFailed = PaintedUntil marked name d s.before s.after s.old s.new
+    × PaintedSoFar form name d s.before s.after s.old s.new
+SheetStopped form name d s WriteFailed = PaintedUntil form name d s.before s.after s.old s.new
 
 -- how a sheet of a script over a desk ends, as a run does
-abbrev pub SheetOver : Bool → List ℕ → Desk → Streams → ProgramEnd → Type 0
-SheetOver marked name d s Clean =
-    Painted marked name d s.before s.after s.old s.new status.Clean × (s.errors_new ≡ s.errors_old)
-SheetOver marked name d s BadLines =
-    Painted marked name d s.before s.after s.old s.new status.BadLines × (s.errors_new ≡ s.errors_old)
-SheetOver marked name d s WrongWords = ⊥
-SheetOver marked name d s Fault =
-    (fault : RunFault) × SheetStopped marked name d s fault × Tells s.errors_old s.errors_new (run_fault_text fault)
+abbrev pub SheetOver : SheetForm → List ℕ → Desk → Streams → ProgramEnd → Type 0
+SheetOver form name d s Clean =
+    Painted form name d s.before s.after s.old s.new status.Clean × (s.errors_new ≡ s.errors_old)
+SheetOver form name d s BadLines =
+    Painted form name d s.before s.after s.old s.new status.BadLines × (s.errors_new ≡ s.errors_old)
+SheetOver form name d s WrongWords = ⊥
+SheetOver form name d s Fault =
+    (fault : RunFault) × SheetStopped form name d s fault × Tells s.errors_old s.errors_new (run_fault_text fault)
 
 -- what was read and written where a fault stopped explanations
 abbrev pub ExplainStopped : Desk → Streams → RunFault → Type 0
@@ -138,7 +139,7 @@ abbrev pub ShownOver : Shown → List ℕ → Desk → Streams → ProgramEnd �
 ShownOver Replies script d s ending = RunOver d s ending
 ShownOver Explanations script d s ending = ExplainOver d s ending
 ShownOver (Map marked) script d s ending = MapOver marked d s ending
-ShownOver (Sheet marked) script d s ending = SheetOver marked (sheet_name script) d s ending
+ShownOver (Sheet form) script d s ending = SheetOver form (sheet_name script) d s ending
 
 -- the streams, where some file of which nothing was read stands in the input's place
 abbrev pub instead : Option (List ℕ) → Input → Streams → Streams

@@ -9,4 +9,5 @@ pub mod Inputs
 pub mod Reasons
 pub mod Requests
 pub mod SheetNames
+pub mod ShownLens
 pub mod Telling

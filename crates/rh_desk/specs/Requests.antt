@@ -2,6 +2,7 @@
 use Rattle.std.specs.Prelude.{◌≡◌, ◌≢◌, ◌<◌, ◌^◌, ℕ, Bool, true, false, List, [], map, codes, Option, Some, None, unwrap_or}
 use Rattle.std.specs.Str.Parse.{IsNumeral, digits_value, without_leading_plus}
 use Rattle.clap.specs.Words.{Row, Text, all_of, first_of, one_of}
+use Rattle.rh_pictures.specs.declared.lens.size.LensSize.{LensSize}
 use Rattle.rh_desk.specs.declared.request.ImageKind.{ImageKind}
 use Rattle.rh_desk.specs.declared.request.ImageKind.TheVariants.{Heap, Slot}
 use Rattle.rh_desk.specs.declared.request.Request.{Request}
@@ -26,12 +27,24 @@ abbrev pub AsksMarked : Option Text → Bool → Type 0
 AsksMarked None marked = marked ≡ false
 AsksMarked (Some text) marked = (text ≡ codes "true" → marked ≡ true) × (text ≡ codes "false" → marked ≡ false)
 
+-- a lens of the size that sheets have
+abbrev pub IsLensAsked : Option LensSize → Type 0
+IsLensAsked lens = lens ≡ Some (record { width = 960; scale = 16 })
+
+-- whether a lens is asked for
+abbrev pub AsksLens : Option Text → Option LensSize → Type 0
+AsksLens None lens = lens ≡ None
+AsksLens (Some text) lens = (text ≡ codes "true" → IsLensAsked lens) × (text ≡ codes "false" → lens ≡ None)
+
 -- what the subcommand's name and values ask to be written of a script
 abbrev pub AsksShown : Text → List Row → Shown → Type 0
 AsksShown name rows Replies = (name ≢ codes "map") × (name ≢ codes "draw") × (name ≢ codes "explain")
 AsksShown name rows Explanations = name ≡ codes "explain"
 AsksShown name rows (Map marked) = (name ≡ codes "map") × AsksMarked (one_of (codes "marked") rows) marked
-AsksShown name rows (Sheet marked) = (name ≡ codes "draw") × AsksMarked (one_of (codes "marked") rows) marked
+AsksShown name rows (Sheet form) =
+    (name ≡ codes "draw")
+    × AsksMarked (one_of (codes "marked") rows) form.marked
+    × AsksLens (one_of (codes "lens") rows) form.lens
 
 -- the subcommand's name and values ask for just this
 abbrev pub AsksFor : Option (Text × List Row) → Request → Type 0

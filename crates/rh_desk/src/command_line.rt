@@ -3,24 +3,34 @@
 ghost use Rattle.std.specs.Prelude.{◌≡◌, IfOk, IfSome, codes, false, map, string_bytes};
 ghost use Rattle.clap.specs.Words.{FailsBy, app_of, fault_of, found_of, one_of, rows_of, rule_of, subcommand_of};
 ghost use Rattle.clap.specs.Words.{subcommand_rows_of};
-ghost use Rattle.rh_desk.specs.CommandLine.{check_words, files_rule, marked_rule, needed_rule, pages_rule};
+ghost use Rattle.rh_desk.specs.CommandLine.{check_words, draw_words, files_rule, lens_rule, marked_rule};
+ghost use Rattle.rh_desk.specs.CommandLine.{needed_rule, pages_rule};
 ghost use Rattle.rh_desk.specs.CommandLine.{picture_words, program_words, script_words};
-ghost use Rattle.rh_desk.specs.Requests.{AsksFor, AsksKind, AsksMarked, AsksNothing, AsksShown};
+ghost use Rattle.rh_desk.specs.Requests.{AsksFor, AsksKind, AsksLens, AsksMarked, AsksNothing, AsksShown};
+ghost use Rattle.rh_desk.specs.ShownLens.{lens_size};
+ghost use Rattle.rh_pictures.specs.LensSizes.{IsLensSize};
 
 use crate::request::{ImageKind, Request, RunRequest, Shown};
 use clap::{Arg, ArgAction, ArgMatches, Command, Error, value_parser};
 use rh_defs::sizes::{MAX_PAGES, MIN_PAGES};
+use rh_pictures::{LensSize, SheetForm};
 use std::alloc::{AllocError, Global};
 
 /// The pages of a desk where nothing is said.
 pub const PAGES: u32 = 64;
+
+/// How large the lens of a sheet is.
+pub const LENS: LensSize = LensSize {
+    width: 960,
+    scale: 16,
+};
 
 /// How the program is called.
 const USAGE: &str = "\
 vervainfile run [--pages N] SCRIPT [NAME=PATH ...]
        vervainfile explain [--pages N] SCRIPT [NAME=PATH ...]
        vervainfile map [--pages N] [--marked] SCRIPT [NAME=PATH ...]
-       vervainfile draw [--pages N] [--marked] SCRIPT [NAME=PATH ...]
+       vervainfile draw [--pages N] [--marked] [--lens] SCRIPT [NAME=PATH ...]
        vervainfile check [--slot] FILE
        vervainfile help COMMAND  (one of these, or of a script, as alloc)
        vervainfile               (with no words: the script on standard input)";
@@ -86,16 +96,19 @@ fn image_kind(found: &ArgMatches<'_>) -> ImageKind
 
 /// What is to be written of a script by a subcommand with a name.
 fn shown_of(name: &str, found: &ArgMatches<'_>) -> Shown
-    ensures { AsksShown name.now (rows_of (found_of found.now)) result }
+    ensures shown { AsksShown name.now (rows_of (found_of found.now)) result }
+    ensures drawable { IfSome (lens_size result) IsLensSize }
 {
     if name == "map" {
         Shown::Map {
             marked: is_marked(found),
         }
     } else if name == "draw" {
-        Shown::Sheet {
+        let form = SheetForm {
             marked: is_marked(found),
-        }
+            lens: lens_asked(found),
+        };
+        Shown::Sheet { form }
     } else if name == "explain" {
         Shown::Explanations
     } else {
@@ -108,6 +121,18 @@ fn is_marked(found: &ArgMatches<'_>) -> bool
     ensures { AsksMarked (one_of (codes "marked") (rows_of (found_of found.now))) result }
 {
     found.get_flag("marked")
+}
+
+/// The lens through which areas are to be drawn: of this size where `--lens` was given.
+fn lens_asked(found: &ArgMatches<'_>) -> Option<LensSize>
+    ensures asked { AsksLens (one_of (codes "lens") (rows_of (found_of found.now))) result }
+    ensures drawable { IfSome result IsLensSize }
+{
+    if found.get_flag("lens") {
+        Some(LENS)
+    } else {
+        None
+    }
 }
 
 /// The words, as far as `clap` knows them.
@@ -125,7 +150,7 @@ pub fn parsed<'a>(alloc: Global, words: &'a [String]) -> Result<ArgMatches<'a>, 
         .subcommand(running(alloc, "run", ABOUT_RUN)?)?
         .subcommand(running(alloc, "explain", ABOUT_EXPLAIN)?)?
         .subcommand(picturing(alloc, "map", ABOUT_MAP)?)?
-        .subcommand(picturing(alloc, "draw", ABOUT_DRAW)?)?
+        .subcommand(drawing(alloc)?)?
         .subcommand(checking(alloc)?)?
         .try_get_matches_from(words)
 }
@@ -186,6 +211,30 @@ fn picturing<'a>(alloc: Global, name: &'a str, about: &'a str) -> Result<Command
         .arg(marked_arg(alloc))?
         .arg(script_arg(alloc))?
         .arg(files_arg(alloc))
+}
+
+/// The words of a sheet of a script.
+fn drawing<'a>(alloc: Global) -> Result<Command<'a>, AllocError>
+    ensures { IfOk result (λ command. app_of command ≡ draw_words) }
+{
+    Command::new(alloc, "draw")
+        .about(ABOUT_DRAW)
+        .after_help(MORE)
+        .arg(pages_arg(alloc))?
+        .arg(marked_arg(alloc))?
+        .arg(lens_arg(alloc))?
+        .arg(script_arg(alloc))?
+        .arg(files_arg(alloc))
+}
+
+fn lens_arg<'a>(alloc: Global) -> Arg<'a>
+    ensures rule { rule_of result ≡ lens_rule }
+    ensures local { result.global ≡ false }
+{
+    Arg::new(alloc, "lens")
+        .long("lens")
+        .help("Draw areas through a lens, each part as wide as its words")
+        .action(ArgAction::SetTrue)
 }
 
 fn marked_arg<'a>(alloc: Global) -> Arg<'a>

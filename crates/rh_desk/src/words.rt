@@ -1,6 +1,6 @@
 //! What the program does with its words.
 
-ghost use Rattle.std.specs.Prelude.{◌≡◌, ◌≢◌, ◌≤◌, ◌<◌, [], codes, length, map, string_bytes, IfOk, IfErr};
+ghost use Rattle.std.specs.Prelude.{◌≡◌, ◌≢◌, ◌≤◌, ◌<◌, [], codes, length, map, string_bytes, IfOk, IfErr, IfSome};
 ghost use Rattle.rh_defs.specs.Runs.{start};
 ghost use Rattle.rh_desk.specs.declared.command_line.TheConstants.{PAGES};
 ghost use Rattle.rh_desk.specs.Done.{AnyWordsEnd, CheckEnds, ExplainOver, FileOver, HelpEnds, InputCheckEnds, MapOver};
@@ -10,6 +10,7 @@ ghost use Rattle.rh_desk.specs.ProgramEnd.{ending_of, exit_status};
 ghost use Rattle.rh_desk.specs.Telling.{Tells, run_fault_text};
 ghost use Rattle.rh_explained.specs.Help.{command_help};
 ghost use Rattle.rh_lines.specs.Flow.{Breaks, Input, Puts, Takes};
+ghost use Rattle.rh_pictures.specs.LensSizes.{IsLensSize};
 ghost use Rattle.rh_session.specs.Outcome.{Finished};
 ghost use Rattle.std.specs.IoError.{error_kind};
 ghost use Rattle.std.specs.declared.io.ErrorKind.TheVariants.{OutOfMemory};
@@ -27,6 +28,7 @@ use memchr::memrchr;
 use rh_defs::Files;
 use rh_explained::{CommandKind, put_command_help};
 use rh_lines::{Flagged, Sink, Source, WriteFailed, WriterPen, put};
+use rh_pictures::SheetForm;
 use rh_run::{RunFault, Status, check_image, check_slot_image, draw_map, draw_sheet, explain, run};
 use std::alloc::Global;
 use std::fs::{File, OpenFile};
@@ -181,22 +183,23 @@ fn sheet_ending<I: Source, O: Sink, E: Sink>(
     alloc: Global,
     files: Files,
     request: &RunRequest<'_, '_>,
-    marked: bool,
+    form: SheetForm,
     script: &mut I,
     output: &mut O,
     errors: &mut E,
 ) -> ProgramEnd
-    requires { (I.input script.old).reads ≡ 0 }
+    requires fresh { (I.input script.old).reads ≡ 0 }
+    requires lens { IfSome form.lens IsLensSize }
     ensures well { exit_status result ≤ 1 → (O.output output.new).failed ≡ (O.output output.old).failed }
     ensures run { result ≡ ProgramEnd.WrongWords → ⊥ }
-    ensures over { SheetOver marked (name_of_sheet request.now.script.now) (start request.now.pages files)
+    ensures over { SheetOver form (name_of_sheet request.now.script.now) (start request.now.pages files)
         (streams (I.input script.old) (I.input script.new) (O.output output.old) (O.output output.new)
         (E.output errors.old) (E.output errors.new)) result }
 {
     let name = sheet_name(request.script);
     let pages = request.pages;
     ended(
-        draw_sheet(alloc, files, script, output, pages, marked, name),
+        draw_sheet(alloc, files, script, output, pages, form, name),
         errors,
     )
 }
@@ -239,8 +242,8 @@ fn show_ending<I: Source, O: Sink, E: Sink>(
         Shown::Map { marked } => {
             map_ending(alloc, files, request.pages, marked, script, output, errors)
         }
-        Shown::Sheet { marked } => {
-            sheet_ending(alloc, files, request, marked, script, output, errors)
+        Shown::Sheet { form } => {
+            sheet_ending(alloc, files, request, form, script, output, errors)
         }
     }
 }

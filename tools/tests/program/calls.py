@@ -21,7 +21,7 @@ USAGE = [
     b"vervainfile run [--pages N] SCRIPT [NAME=PATH ...]\n",
     b"vervainfile explain [--pages N] SCRIPT [NAME=PATH ...]\n",
     b"vervainfile map [--pages N] [--marked] SCRIPT [NAME=PATH ...]\n",
-    b"vervainfile draw [--pages N] [--marked] SCRIPT [NAME=PATH ...]\n",
+    b"vervainfile draw [--pages N] [--marked] [--lens] SCRIPT [NAME=PATH ...]\n",
     b"vervainfile check [--slot] FILE\n",
     b"vervainfile help COMMAND ",
     b"  0  each line was good, or the bytes are a heap, or with --slot a slot\n",
@@ -33,14 +33,15 @@ PAGES = b"Pages of the desk, 8 to 1024 [default: 64]"
 SCRIPT = b"The script, a command a line; - for standard input"
 FILES = b"Files that the script may load, each by a name"
 MARKED = b"Show marked steps alone: a line #picture marks the next"
+LENS = b"Draw areas through a lens, each part as wide as its words"
 HELP = [
     (["--help"], USAGE),
     (["run", "--help"], [b"Run a script and print its replies", PAGES, SCRIPT, FILES]),
     (["explain", "--help"], [b"Run a script and say what was wrong with bad and refused lines", PAGES, SCRIPT, FILES]),
     (["check", "--help"], [b"The bytes, 1048576 at most; - for standard input", b"Take the bytes for a slot, not for a heap"]),
     (["map", "--help"], [b"Run a script and print a map of memory after each step", PAGES, MARKED, SCRIPT, FILES]),
-    (["draw", "--help"], [b"Run a script and print memory after each step as a page of HTML", PAGES, MARKED, SCRIPT,
-                          FILES]),
+    (["draw", "--help"], [b"Run a script and print memory after each step as a page of HTML", PAGES, MARKED, LENS,
+                          SCRIPT, FILES]),
 ]
 # Numbers of pages, and how many are free where nothing has begun.
 NUMBERS = [("8", 7), ("64", 63), ("100", 99), ("129", 128), ("256", 255), ("1024", 1023)]
@@ -67,8 +68,8 @@ def test_wrong_words_are_told(suite):
 
 def test_help_is_no_mistake(suite):
     """Each way to ask for help ends with 0, and tells nothing."""
-    for words in [["--help"], ["run", "--help"], ["explain", "--help"], ["check", "--help"], ["help"], ["help", "run"], ["-h"],
-                  ["help", "-h"], ["help", "--help"]]:
+    for words in [["--help"], ["run", "--help"], ["explain", "--help"], ["check", "--help"], ["map", "--help"],
+                  ["draw", "--help"], ["help"], ["help", "run"], ["-h"], ["help", "-h"], ["help", "--help"]]:
         output, told, status = suite.run(words)
         suite.is_true(f"{words} are no mistake", (told, status) == (b"", 0))
         for text in [b"With no words at all the script on standard input is run",

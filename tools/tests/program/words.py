@@ -29,6 +29,8 @@ def test_wrong_words(suite):
         (["draw", "--pages", "1025", "x"], "invalid value '1025' for '--pages <N>'"),
         (["draw", "--marked", "--marked", "x"], "the argument '--marked' cannot be used multiple times"),
         (["draw", "--slot", "x"], "unexpected argument '--slot' found"),
+        (["draw", "--lens", "--lens", "x"], "the argument '--lens' cannot be used multiple times"),
+        (["map", "--lens", "x"], "unexpected argument '--lens' found"),
         (["draws", "x"], "unrecognized subcommand 'draws'"),
         (["explain", "--marked", "x"], "unexpected argument '--marked' found"),
         (["explain"], "the following required arguments were not provided"),

@@ -14,12 +14,12 @@ words-are c =
     let one = c.in_ok-subcommand.ensures.shape (third-passes _ _ _ _ (ap (λ (a : App). a.top.is_plain) c.in_ok-running.ensures)) in
     let two = c.in_ok-subcommand-2.ensures.shape (third-passes _ _ _ _ (ap (λ (a : App). a.top.is_plain) c.in_ok-running-2.ensures)) in
     let three = c.in_ok-subcommand-3.ensures.shape (third-passes _ _ _ _ (ap (λ (a : App). a.top.is_plain) c.in_ok-picturing.ensures)) in
-    let four = c.in_ok-subcommand-4.ensures.shape (third-passes _ _ _ _ (ap (λ (a : App). a.top.is_plain) c.in_ok-picturing-2.ensures)) in
+    let four = c.in_ok-subcommand-4.ensures.shape (third-passes _ _ _ _ (ap (λ (a : App). a.top.is_plain) c.in_ok-drawing.ensures)) in
     let five = c.in_ok-subcommand-5.ensures.shape (third-passes _ _ _ _ (ap (λ (a : App). a.top.is_plain) c.in_ok-checking.ensures)) in
     let run = one ∙ ap₂ with_subcommand top_is (ap (λ (a : App). a.top) c.in_ok-running.ensures) in
     let explain_too = two ∙ ap₂ with_subcommand run (ap (λ (a : App). a.top) c.in_ok-running-2.ensures) in
     let map_too = three ∙ ap₂ with_subcommand explain_too (ap (λ (a : App). a.top) c.in_ok-picturing.ensures) in
-    let draw_too = four ∙ ap₂ with_subcommand map_too (ap (λ (a : App). a.top) c.in_ok-picturing-2.ensures) in
+    let draw_too = four ∙ ap₂ with_subcommand map_too (ap (λ (a : App). a.top) c.in_ok-drawing.ensures) in
     five ∙ ap₂ with_subcommand draw_too (ap (λ (a : App). a.top) c.in_ok-checking.ensures)
 
 pub returns-clause-found : goal.returns-clause-found

@@ -31,7 +31,7 @@ returns-clause-asked c =
     let files : map (λ v. v.now) c.unwrap_or-files.result.now ≡ unwrap_or (all_of (codes "files") (rows_of (found_of c.in_ok-name.found.now))) [] =
     ap (λ s. map (λ v. v.now) s.now) c.unwrap_or-files.ensures
     ∙ words-are _ _ _ (c.get_strs.ensures ∙ raw_values-rows (found_of c.in_ok-name.found.now) (codes "files")) refl in
-    rw row (run, pages, script, files, c.shown_of.ensures)
+    rw row (run, pages, script, files, c.shown_of.ensures.shown)
 
 pub returns-in_err-file-clause-none : goal.returns-in_err-file-clause-none
 returns-in_err-file-clause-none c = λ none.

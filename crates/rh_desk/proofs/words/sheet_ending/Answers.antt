@@ -7,6 +7,6 @@ returns-clause-over g c =
     let drew = c.draw_sheet.ensures in
     let request = c.args.request.now in
     rw (c.ended.ensures.ending, ← c.sheet_name-name.ensures)
-    (sheet-over c.args.marked c.sheet_name-name.result.now (start request.pages c.args.files) _ c.draw_sheet.result drew.ok drew.no_memory drew.read_failed
+    (sheet-over c.args.form c.sheet_name-name.result.now (start request.pages c.args.files) _ c.draw_sheet.result drew.ok drew.no_memory drew.read_failed
     drew.read_painted
     drew.too_long drew.long_painted drew.write_failed c.ended.ensures.quiet c.ended.ensures.errors)
