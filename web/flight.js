@@ -70,7 +70,7 @@ export const copiesBytes = (changes) => changes.some((text) => INTO_BUFFER.test(
 // A byte that is to fly.
 function chipOf(byte) {
   const chip = document.createElement("span");
-  chip.className = "byte";
+  chip.className = "chip";
   chip.textContent = byte > 32 && byte < 127 ? String.fromCharCode(byte) : "·";
   return chip;
 }

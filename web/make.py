@@ -23,6 +23,8 @@ SCRIPTS = ("bytes.js", "script.js", "desk.js", "instance.js", "files.js", "link.
 MOST_BYTES = 400_000
 USUAL_PAGES = 64
 IMPORT = re.compile(r"^import \{[^}]*\} from \"\./([a-z_]+\.js)\";\n", re.MULTILINE)
+# A line of a part that is a remark alone. No text of a part has such a line.
+REMARK = re.compile(r"^ *//.*\n", re.MULTILINE)
 # A name at the head of a part, as no other part may have it.
 NAME = re.compile(r"^(?:export )?(?:async )?(?:const|let|function\*?|class) (\w+)", re.MULTILINE)
 # A question of a lesson: behind which line it is asked, and for each answer a label, the line of the script or the
@@ -49,7 +51,7 @@ def parts(names=SCRIPTS, replaced=None):
 
 
 def bundle(sources):
-    """One script of the parts of a page's script, by their names: their imports and exports fall away."""
+    """One script of the parts of a page's script, by their names: imports, exports and lines of remarks fall away."""
     seen, text, named = set(), [], {}
     for name, source in sources.items():
         for it in NAME.findall(source):
@@ -58,7 +60,7 @@ def bundle(sources):
         unseen = set(IMPORT.findall(source)) - seen
         if unseen:
             raise PageFault(f"{name} stands before {', '.join(sorted(unseen))}")
-        text.append(re.sub(r"^export ", "", IMPORT.sub("", source), flags=re.MULTILINE).strip())
+        text.append(re.sub(r"^export ", "", REMARK.sub("", IMPORT.sub("", source)), flags=re.MULTILINE).strip())
         seen.add(name)
     return "\n\n".join(text) + "\n"
 

@@ -15,6 +15,12 @@ const STAYS = "Memory stays as it is.";
 const ASKED = "A question: memory stays as it is.";
 // A command by which a script sends messages.
 const SENDS = /^ *(?:save|send|spool) /;
+// What can be shown, with the calls that draw it.
+const VIEWS = [["lens", "vf_lens"], ["picture", "vf_draw"], ["map", "vf_map"]];
+// How wide a lens may be, and what stands beside it in its frame, in pixels.
+const [LEAST_WIDTH, MOST_WIDTH, BESIDE] = [300, 1700, 6];
+// So many pixels of a lens 8 bytes may have.
+const SCALES = [1, 2, 4, 8, 12, 16, 24, 32, 48, 64];
 const NO_DRAWING = "The module of this page draws no pictures.";
 
 // Why a session has no step to be shown.
@@ -51,6 +57,8 @@ export class Memory {
   #replies;
   // The step whose picture was shown last: the lines and the pages of its script, and the place of its command.
   #pictured = { command: -1 };
+  // Which of the scales a lens has.
+  #scale = SCALES.indexOf(16);
   // What the last command has changed, in words; and that it changes nothing, where that is known.
   changes = [];
   #still = "";
@@ -61,13 +69,16 @@ export class Memory {
     this.#parts = parts;
     this.#picture = new Picture(parts.picture, addedStyle);
     this.#chart = new Picture(parts.chart, addedStyle);
-    parts.views.hidden = !(session.has("vf_draw") && session.has("vf_map"));
+    parts.views.hidden = VIEWS.filter(([, call]) => session.has(call)).length < 2;
     for (const radio of this.#radios()) {
+      radio.parentNode.hidden = !session.has(VIEWS.find(([view]) => view === radio.value)[1]);
       radio.addEventListener("change", () => {
         this.show();
         this.settle();
       });
     }
+    parts.smaller.addEventListener("click", () => this.#rescale(-1));
+    parts.larger.addEventListener("click", () => this.#rescale(1));
     // A click on the number of a line in the chart goes to that line.
     parts.chart.addEventListener("click", (event) => {
       const [target] = event.composedPath();
@@ -79,9 +90,9 @@ export class Memory {
     return [...this.#parts.views.querySelectorAll("input")];
   }
 
-  // What is to be shown: a picture or a map, or nothing where the module has neither.
+  // What is to be shown: a lens, a picture or a map, or nothing where the module has none.
   get #view() {
-    const views = [["picture", "vf_draw"], ["map", "vf_map"]].filter(([, call]) => this.#session.has(call));
+    const views = VIEWS.filter(([, call]) => this.#session.has(call));
     const chosen = this.#radios().find((radio) => radio.checked).value;
     return (views.find(([view]) => view === chosen) ?? views[0])?.[0];
   }
@@ -94,13 +105,14 @@ export class Memory {
     this.#parts.empty.hidden = !isEmpty;
     this.#makeRoomForMessages();
     // Where figures stand is asked for while they are drawn: their place is seen by then.
-    this.#parts.picture.hidden = this.#view !== "picture";
+    this.#parts.picture.hidden = !["lens", "picture"].includes(this.#view);
     const fault = this.#session.fault || this.#draw();
     this.#parts.nothing.textContent = fault;
     this.#parts.nothing.hidden = !fault || isEmpty;
     const view = fault ? undefined : this.#view;
     if (fault) this.#picture.clear();
-    this.#parts.picture.hidden = view !== "picture";
+    this.#parts.picture.hidden = !["lens", "picture"].includes(view);
+    for (const id of ["smaller", "larger"]) this.#parts[id].hidden = view !== "lens";
     this.#parts.map.hidden = view !== "map";
     this.#parts.shown.replaceChildren(...this.#session.command < 0 ? [] : shownLine(this.#session));
     this.#tellChanges();
@@ -126,17 +138,40 @@ export class Memory {
       this.#parts.map.textContent = added ? map.replace(new RegExp(`^${line + added}  `, "m"), `${line}  `) : map;
       return "";
     }
+    const size = view === "lens" ? this.#size : {};
+    const call = view === "lens" ? "vf_lens" : "vf_draw";
     const { style, memory, messages, legend, changes } =
-      lastStepOf(this.#session.drawn("vf_draw", false), line, added);
+      lastStepOf(this.#session.drawn(call, false, size), line, added);
     const { command, state: { lines, pages } } = this.#session;
-    const isBeside = this.#isBesidePictured();
+    const isBeside = this.#isBesidePictured() && this.#pictured.form === JSON.stringify(size);
+    this.#parts.picture.classList.toggle("through", view === "lens");
     const isBehind = isBeside && command > this.#pictured.command;
     this.#picture.show(style, memory, legend, isBeside, isBehind ? changes : []);
-    this.#pictured = { command, lines, pages };
+    this.#pictured = { command, lines, pages, form: JSON.stringify(size) };
     this.#showMessages(messages, style, isBeside);
     this.changes = changes;
     this.#still = stillness(lines[command], this.#session.replies[command]);
     return "";
+  }
+
+  // How large a lens is: as wide as its frame.
+  get #size() {
+    const room = this.#parts.frame.clientWidth || document.body.clientWidth;
+    return { width: Math.max(LEAST_WIDTH, Math.min(MOST_WIDTH, room - BESIDE)), scale: SCALES[this.#scale] };
+  }
+
+  #rescale(by) {
+    const scale = this.#scale + by;
+    if (!(scale in SCALES)) return;
+    this.#scale = scale;
+    this.show();
+    this.settle();
+  }
+
+  // Draws a lens anew where its frame has become wider or narrower.
+  fit() {
+    const isLens = this.#view === "lens" && this.#pictured.form;
+    if (isLens && this.#pictured.form !== JSON.stringify(this.#size)) this.show();
   }
 
   // Whether the step is the one before the step that was shown last, or the one behind it: of the same script, or of
@@ -157,7 +192,7 @@ export class Memory {
       this.#replies = replies;
       this.#sends = state.lines.some((line, at) => SENDS.test(line) && outcomeOf(replies[at]) === "ok");
     }
-    const hasRoom = this.#sends && this.#view === "picture";
+    const hasRoom = this.#sends && ["lens", "picture"].includes(this.#view);
     this.#parts.messages.hidden = !hasRoom;
     this.#parts["no-messages"].hidden = false;
     document.body.classList.toggle("with-messages", hasRoom);

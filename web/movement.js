@@ -3,7 +3,7 @@
 
 export const MOTION = { duration: 420, easing: "cubic-bezier(.3, 0, .2, 1)" };
 // Arrows of slides, and what is new among messages, are seen once all blocks have their places.
-const ARROWS = ".casing, .ghost, .slide, .msg.now, .mname.now";
+const ARROWS = ".casing, .ghost, .slide, .leads, .msg.now, .mname.now";
 const LATE = { duration: 150, delay: MOTION.duration, fill: "backwards" };
 const UNSEEN = [{ opacity: 0 }, { opacity: 1 }];
 const GONE = [{ opacity: 1 }, { opacity: 0 }];
@@ -33,10 +33,23 @@ function addParts(parts, svg) {
   }
 }
 
+// Adds the parts of a lens: each has its name, and all that stands in it moves with it.
+function addGroups(parts, svg) {
+  const owner = svg.querySelector("title").textContent;
+  for (const group of svg.querySelectorAll(":scope > [data-key]")) {
+    const rect = group.querySelector("rect");
+    const place = { x: numberOf(rect, "x"), y: numberOf(rect, "y"), width: numberOf(rect, "width") };
+    parts.set(`${owner}, ${group.dataset.key}`, { owner, group, rect, place });
+  }
+}
+
 // The parts of a picture of memory that may move.
 export function partsIn(figure) {
   const parts = new Map();
-  for (const svg of figure.querySelectorAll(".memory svg")) addParts(parts, svg);
+  for (const svg of figure.querySelectorAll(".memory svg")) {
+    addParts(parts, svg);
+    addGroups(parts, svg);
+  }
   return parts;
 }
 
@@ -51,6 +64,13 @@ function move({ element, label, rows, place }, before) {
   label?.animate([{ transform: `translate(${right}px, ${y - place.y}px)` }, { transform: "none" }], MOTION);
 }
 
+// Moves a part of a lens from the place that it had.
+function moveGroup({ group, rect, place }, { place: old }) {
+  const [right, down] = [old.x - place.x, old.y - place.y];
+  if (right || down) group.animate([{ transform: `translate(${right}px, ${down}px)` }, { transform: "none" }], MOTION);
+  if (old.width !== place.width) rect.animate([{ width: `${old.width}px` }, { width: `${place.width}px` }], MOTION);
+}
+
 // A layer over a figure, which isn't told to those who listen. It goes once all that moves on it has come to its end.
 export function layerOver(figure, elements, animate) {
   const layer = document.createElement("div");
@@ -60,23 +80,38 @@ export function layerOver(figure, elements, animate) {
   Promise.allSettled(elements.map((it) => animate(it).finished)).then(() => layer.remove());
 }
 
-// A part that is gone, as it was, where its row is now; upon a plate that lies over the picture of its slot.
+// The picture of a slot, or of the module area.
+function pictureOf(figure, owner) {
+  return [...figure.querySelectorAll(".memory svg")].find((it) => it.querySelector("title").textContent === owner);
+}
+
+// What is gone of a picture upon a plate that lies over it.
+function plateOver(figure, svg, ghost) {
+  const plate = svg.cloneNode(false);
+  const [corner, seen] = [figure, svg].map((it) => it.getBoundingClientRect());
+  plate.append(ghost);
+  const over = inUnits({ left: seen.left - corner.left, top: seen.top - corner.top, width: seen.width });
+  Object.assign(plate.style, { position: "absolute", ...over });
+  return plate;
+}
+
+// A part of a lens that is gone, as it was.
+function ghostOfGroup(figure, { owner, group }) {
+  const svg = pictureOf(figure, owner);
+  return svg ? [plateOver(figure, svg, group.cloneNode(true))] : [];
+}
+
+// A part that is gone, as it was, where its row is now.
 function ghostOf(figure, { owner, element, address, place: { x, width } }) {
-  const isOwn = (it) => it.querySelector("title").textContent === owner;
-  const svg = [...figure.querySelectorAll(".memory svg")].find(isOwn);
+  const svg = pictureOf(figure, owner);
   const label = [...svg?.querySelectorAll(".addr") ?? []].find((it) => it.textContent === address);
   const row = label && [...svg.querySelectorAll(".row")].find((it) => numberOf(it, "y") < numberOf(label, "y")
     && numberOf(label, "y") < numberOf(it, "y") + numberOf(it, "height"));
   if (!row) return [];
   const ghost = element.cloneNode(false);
-  const plate = svg.cloneNode(false);
-  const [corner, seen] = [figure, svg].map((it) => it.getBoundingClientRect());
   for (const [name, value] of Object.entries({ x, y: numberOf(row, "y"), width })) ghost.setAttribute(name, value);
   ghost.classList.remove("fresh");
-  plate.append(ghost);
-  const over = inUnits({ left: seen.left - corner.left, top: seen.top - corner.top, width: seen.width });
-  Object.assign(plate.style, { position: "absolute", ...over });
-  return [plate];
+  return [plateOver(figure, svg, ghost)];
 }
 
 // Moves the parts of a picture from where those of another one were, and lets fade those that are gone, unless less
@@ -84,12 +119,13 @@ function ghostOf(figure, { owner, element, address, place: { x, width } }) {
 export function moveParts(figure, before) {
   if (LESS_MOTION.matches) return;
   const parts = partsIn(figure);
-  const gone = [...before].filter(([key]) => !parts.has(key)).flatMap(([, part]) => ghostOf(figure, part));
+  const gone = [...before].filter(([key]) => !parts.has(key))
+    .flatMap(([, part]) => (part.group ? ghostOfGroup : ghostOf)(figure, part));
   if (gone.length) layerOver(figure, gone, (ghost) => ghost.animate(GONE, MOTION));
   for (const [key, part] of parts) {
     const old = before.get(key);
-    if (old) move(part, old);
-    else [part.element, part.label].forEach((it) => it?.animate(UNSEEN, MOTION));
+    if (old) (part.group ? moveGroup : move)(part, old);
+    else [part.element, part.label, part.group].forEach((it) => it?.animate(UNSEEN, MOTION));
   }
   for (const arrow of figure.querySelectorAll(ARROWS)) arrow.animate(UNSEEN, LATE);
 }

@@ -303,6 +303,7 @@ class Page {
     ]);
     listenToPanes(parts.panes, () => {
       this.#list.fit();
+      this.#memory.fit();
       this.#settle();
     });
     for (const [id, action] of Object.entries(this.#actions)) parts[id].addEventListener("click", action);
@@ -312,7 +313,10 @@ class Page {
     parts.name.addEventListener("change", () => this.#session.change({ name: deskName(parts.name.value) }));
     parts.pages.addEventListener("change", () => this.#setPages());
     addEventListener("keydown", (event) => this.#onKey(event));
-    addEventListener("resize", () => this.#settle());
+    addEventListener("resize", () => {
+      this.#memory.fit();
+      this.#settle();
+    });
     this.#listenToDrops();
   }
 

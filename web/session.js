@@ -190,9 +190,10 @@ export class Session {
   }
 
   // The text that a call of the module writes of the last step alone, or of the whole script.
-  drawn(call, isWhole) {
+  // A lens has a width and a scale.
+  drawn(call, isWhole, size = {}) {
     const text = isWhole ? this.text : markedText(this.state, this.command);
-    return this.#desk.text(call, this.#job(text, isWhole ? 0 : 1));
+    return this.#desk.text(call, { ...this.#job(text, isWhole ? 0 : 1), ...size });
   }
 
   // How many lines the text of the last step has before its command that the script doesn't have.

@@ -1,5 +1,6 @@
 """What a class does with the page: the story and its questions, predictions, explanations, completion, undo, links."""
 
+import itertools
 import json
 import re
 
@@ -18,6 +19,10 @@ SEEN_HEIGHTS = """((names) => [names.map((name) => {
   const { top, bottom } = document.querySelector(name).getBoundingClientRect();
   return Math.min(bottom, innerHeight) - Math.max(top, 0);
 }), scrollY, document.documentElement.scrollHeight - innerHeight])"""
+# How many pixels a unit of a lens has, in the smallest one.
+LEAST_OF_LENSES = """Math.min(...[...document.querySelector('#picture').shadowRoot.querySelectorAll('.memory svg')]
+  .filter((it) => it.querySelector('[data-key]'))
+  .map((it) => it.getBoundingClientRect().width / it.viewBox.baseVal.width))"""
 # Words that stand in place of those of a form.
 SAMPLES = {"NAME": "a", "TO": "b", "FILE": "f", "A": "0", "BUF": "9", "N": "5", "OFF": "0", "AT": "0", "DELTA": "-4",
            "BY": "4", "K": "256", "MAX": "4", "ID": "1", "ADDR": "&8114", "HEX": "6869", "LEAF": "x!", "CODE": "18",
@@ -51,22 +56,38 @@ def names_of_examples(width):
     return names if width in (1280, 390) else [it for it in names if it.startswith("lessons/")] + ["transfer"]
 
 
+def walk_in_sight(page, name, size):
+    """Goes through an example, at each step of which the steps and the picture are in sight."""
+    page.load(name)
+    for _ in range(min(30, len(make.examples_by_name()[name]["text"].splitlines()))):
+        page.click("step")
+        found, scrolled, over = page.value(f"{SEEN_HEIGHTS}({json.dumps(list(IN_SIGHT))})")
+        short = {it: seen for (it, least), seen in zip(IN_SIGHT.items(), found) if seen < least}
+        same([short, scrolled, max(0, over)], [{}, 0, 0],
+             f"what isn't in sight, and what is scrolled, in {name} at {page.text('shown')[:20]}, {size}")
+
+
 def check_windows(bench):
     """In each window the steps and the picture are in sight at each step, and the page itself isn't scrolled."""
-    names = json.dumps(list(IN_SIGHT))
     with bench.kept_page() as page:
         for width, height in WINDOWS:
             page.tab.resize(width, height)
             for name in names_of_examples(width):
-                page.load(name)
-                for _ in range(min(30, len(make.examples_by_name()[name]["text"].splitlines()))):
-                    page.click("step")
-                    found, scrolled, over = page.value(f"{SEEN_HEIGHTS}({names})")
-                    short = {it: seen for (it, least), seen in zip(IN_SIGHT.items(), found) if seen < least}
-                    same([short, scrolled, max(0, over)], [{}, 0, 0],
-                         f"what isn't in sight, and what is scrolled, in {name} at {page.text('shown')[:20]}, "
-                         f"{width} by {height}")
+                walk_in_sight(page, name, f"{width} by {height}")
             bench.picture(page, f"window-{width}-{height}")
+
+
+def check_lens_in_windows(bench):
+    """The same holds in each window where memory is seen through a lens, which no window makes smaller."""
+    with bench.kept_page() as page:
+        page.look("lens")
+        for width, height in WINDOWS:
+            page.tab.resize(width, height)
+            for name in ("lessons/small-buffer", "lessons/death"):
+                walk_in_sight(page, name, f"{width} by {height} through a lens")
+                least = page.value(LEAST_OF_LENSES)
+                holds(least > 0.97, f"a lens of {name} is drawn at {least:.2f} of its size in {width} by {height}")
+            bench.picture(page, f"lens-{width}-{height}")
 
 
 def check_story(bench):
@@ -409,7 +430,7 @@ FLYING = """(async (button) => {
     const [x, y] = transform.match(/-?[0-9.]+/g).map(Number);
     return places.find((it) => x >= it.left && x < it.left + it.width && y >= it.top && y < it.top + it.height)?.name;
   };
-  const found = moves.filter(({ effect }) => effect.target.matches('.byte')).map(({ effect }) => {
+  const found = moves.filter(({ effect }) => effect.target.matches('.chip')).map(({ effect }) => {
     const [from, to] = effect.getKeyframes();
     return [effect.target.textContent, under(before, from), under(cards(), to),
       effect.getTiming().delay];
@@ -483,6 +504,26 @@ def check_changed_in_sight(bench):
                     seen, count, unseen = page.value(CHANGED_IN_SIGHT % json.dumps(way))
                     holds(seen or not count, f"nothing of {count} changes at line {line} of {name} is seen at {width}")
                     same(unseen, [], f"which cards at line {line} of {name} aren't seen at {width}")
+        page.tab.call("Emulation.setEmulatedMedia", features=[])
+
+
+def check_changed_in_lens(bench):
+    """What a step has changed is in sight through a lens too, wide and on a phone."""
+    with bench.kept_page() as page:
+        page.look("lens")
+        for width, height, *names in ((1280, 720, "death", "sliding"), (390, 844, "small-buffer")):
+            page.tab.resize(width, height)
+            page.tab.call("Emulation.setEmulatedMedia", features=LESS_MOTION)
+            for name in names:
+                page.load(f"lessons/{name}")
+                changes = 0
+                while "step" not in page.disabled():
+                    page.click("step")
+                    seen, count, _ = page.value(CHANGED_IN_SIGHT % "[]")
+                    changes += count > 0
+                    holds(seen or not count, f"nothing of {count} changes at {page.text('shown')[:20]} of {name} is seen "
+                          f"at {width} through a lens")
+                holds(changes > 4, f"only {changes} steps of {name} change something in a lens")
         page.tab.call("Emulation.setEmulatedMedia", features=[])
 
 
@@ -683,13 +724,15 @@ def busy_seconds(page):
 
 
 def check_quick_steps(bench):
-    """A step of a lesson, and of a longer example, is drawn within 60 milliseconds of a processor."""
+    """A step of a lesson, and of a longer example, is drawn within 60 milliseconds of a processor, in each view."""
+    names = ("lessons/small-buffer", "lessons/death", "lessons/sliding", "eight-transfers")
     with bench.page() as page:
         page.tab.call("Performance.enable", timeDomain="threadTicks")
-        for name in ("lessons/small-buffer", "lessons/death", "lessons/sliding", "eight-transfers"):
+        for view, name in itertools.product(("picture", "lens"), names):
+            page.look(view)
             page.load(name)
             start = busy_seconds(page)
             count = page.value(WALK)
             took = 1000 * (busy_seconds(page) - start) / count
-            print(f"  {name}: {count} steps, each {took:.0f} ms of a processor")
-            holds(1 < took <= MOST_OF_STEP, f"a step of {name} takes {took:.0f} ms")
+            print(f"  {name}, {view}: {count} steps, each {took:.0f} ms of a processor")
+            holds(1 < took <= MOST_OF_STEP, f"a step of {name} takes {took:.0f} ms as a {view}")

@@ -17,6 +17,9 @@ FOCUSED = "document.activeElement"
 TOP_OF_FOCUSED = f"(({FOCUSED}.shadowRoot?.activeElement ?? {FOCUSED}).getBoundingClientRect().top)"
 # How much of what stands in an element is cut off below.
 CUT_OFF = "((it) => it.scrollHeight - it.clientHeight)(document.querySelector('%s'))"
+# How much wider than its frame the pool is, and how much what is below it.
+WIDER = """[...document.querySelector('#picture').shadowRoot.querySelectorAll('.wide')]
+  .map((it) => it.scrollWidth - it.clientWidth)"""
 # How many lines of a box are seen, and what part of the next one.
 LINES_SEEN = """((box) => ((seen) => [Math.floor(seen + 0.1), Number((seen - Math.floor(seen)).toFixed(2))])(
   box.clientHeight / box.lastElementChild.getBoundingClientRect().height))"""
@@ -232,6 +235,9 @@ def check_on_paper(bench):
             same(page.seen("script", "memory", "picture", "step", "prompt", "tools", "views", "panes", "hint"),
                  ["script", "memory", "picture"], f"what is on paper, at {width}")
             holds(page.value("document.body.offsetHeight") != height, "the page is as high as a window")
+            same(page.value(WIDER), [0, 0], f"how much wider than a sheet of paper pictures are, at {width}")
+            same(page.value("getComputedStyle(document.querySelector('#messages')).breakInside"), "avoid",
+                 "whether the heading of messages may stand on another sheet of paper than these")
             page.tab.call("Emulation.setEmulatedMedia", media="")
 
 

@@ -40,7 +40,7 @@ LANDMARKS = [("banner", ""), ("contentinfo", ""), ("main", ""), ("region", "Comm
 CONTROLS = [("checkbox", "Predict"), ("combobox", "Load a lesson or an example"),
             ("searchbox", "Find a command or a refusal"), ("slider", "Commands that have run"), ("textbox", "Command")]
 # The fields that are there when a script is, and the panel of the file is open.
-MORE_CONTROLS = [("radio", "Map"), ("radio", "Picture"), ("spinbutton", "Pages"), ("textbox", "Name")]
+MORE_CONTROLS = [("radio", "Lens"), ("radio", "Map"), ("radio", "To scale"), ("spinbutton", "Pages"), ("textbox", "Name")]
 
 # The colours and lines by which rows are told apart: those of the row, of its line, and of its reply.
 LOOKS = """[...document.querySelectorAll('#lines > li')].map((row) => {
@@ -72,7 +72,7 @@ AT_HAND = """['back', 'step', 'run'].filter((id) => ((it) => it.top >= 0 && it.b
 
 # The elements that the tab key reaches, in order.
 TAB_STOPS = ["examples", "open", "fresh", "undo", "redo", "file-button", "help-button", "Line 4", "command", "Enter",
-             "Picture", "Pool of pages", "Slots and module area", "summary", "back", "step", "run", "slider", "predict"]
+             "To scale", "Pool of pages", "Slots and module area", "summary", "back", "step", "run", "slider", "predict"]
 # Elements without an end, and attributes that name ids.
 VOID = {"meta", "link", "input", "br"}
 # What a browser has to know before anything is shown: language, characters, widths, colours.
@@ -129,6 +129,29 @@ def check_contrast(bench):
             page.click("help-button")
             page.value("document.querySelector('#picture').shadowRoot.querySelector('details').open = true")
             same(page.script("contrasts.js", LEAST_CONTRAST), [], f"texts of little contrast, {light}")
+
+
+# The examples whose lenses are looked at for contrast, and at which step.
+COLOURED_LENSES = {"lessons/small-buffer": 9, "lessons/sliding": 13, "lessons/death": 9, "made-areas": 9}
+
+
+def check_contrast_of_lens(bench):
+    """Each text has enough contrast, light and dark, in lenses, and beside them on the page."""
+    with bench.kept_page() as page:
+        page.look("lens")
+        for light in ("light", "dark"):
+            page.tab.resize(1440, 900)
+            # What comes in or fades would have colours that no text has.
+            features = {"prefers-color-scheme": light, "prefers-reduced-motion": "reduce"}
+            page.tab.call("Emulation.setEmulatedMedia",
+                          features=[{"name": name, "value": value} for name, value in features.items()])
+            for name, count in COLOURED_LENSES.items():
+                page.load(name)
+                for _ in range(count):
+                    page.click("step")
+                holds(page.pictured("[data-key] text") > 4, f"there are no words in the lenses of {name}")
+                same(page.script("contrasts.js", LEAST_CONTRAST), [], f"texts of little contrast in {name}, {light}")
+        page.tab.call("Emulation.setEmulatedMedia", features=[])
 
 
 # The size of the smallest word of the picture, in units of the window; and words that are wider than their places: tags

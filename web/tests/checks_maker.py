@@ -93,7 +93,7 @@ def check_making(bench):
             holds(re.fullmatch(r"the page has \d+ bytes, more than \d+", told), f"of a page that is too long: {told}")
             holds(not path.exists(), "a page that is too long is written")
     for text in ("</script>", "</SCRIPT ", "<!-- "):
-        with written(part_js=f"// {text}\n") as folder:
+        with written(part_js=f'"{text}";\n') as folder:
             told = fault_of(make.PageFault, lambda: make.page_of(b"", {"instance.js": folder / "part.js"}))
             same(told, "the page's script would end early", f"what is told of {text}")
     with tempfile.TemporaryDirectory() as folder:
@@ -105,10 +105,10 @@ def check_making(bench):
 
 
 def check_bundle(_bench):
-    """The parts of a script are one script without imports and exports, each behind those that it uses."""
-    one = {"one.js": 'export const A = 1;\nconst text = "export ";\n'}
+    """The parts are one script without imports, exports and lines of remarks, each behind those that it uses."""
+    one = {"one.js": '// A part.\n\nexport const A = 1;\n// What\n  // else.\nconst text = "export // no remark";\n'}
     two = {"two.js": 'import { A } from "./one.js";\n\nexport function b() {\n  return A;\n}\n'}
-    same(make.bundle(one | two), 'const A = 1;\nconst text = "export ";\n\nfunction b() {\n  return A;\n}\n',
+    same(make.bundle(one | two), 'const A = 1;\nconst text = "export // no remark";\n\nfunction b() {\n  return A;\n}\n',
          "the script")
     told = fault_of(make.PageFault, lambda: make.bundle(two | one))
     same(told, "two.js stands before one.js", "what is told of parts in another order")

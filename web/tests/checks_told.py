@@ -18,7 +18,7 @@ KEYS = {"F8": "runs the next command", "Shift F8": "goes back by one command", "
 NAMES = {"open": "Open…", "fresh": "New", "undo": "Undo", "redo": "Redo", "file-button": "File…", "help-button": "Help",
          "file-close": "Close", "add": "Add files…", "save": "Save script", "save-sheet": "Save all pictures",
          "print": "Print", "copy": "Copy link", "copy-text": "Copy script as text", "help-close": "Close",
-         "compare": "Compare", "back": "Back", "step": "Step", "run": "Run all"}
+         "smaller": "−", "larger": "+", "compare": "Compare", "back": "Back", "step": "Step", "run": "Run all"}
 # The examples that are offered: of each group its label, and names and titles.
 OFFERED = """[...document.querySelectorAll('#examples optgroup')].map((group) =>
   [group.label, [...group.children].map((it) => [it.value, it.textContent])])"""

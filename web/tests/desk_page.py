@@ -28,6 +28,10 @@ AT_FIRST = """(() => {
 })()"""
 
 
+# Most tests look at the picture to scale.
+TO_SCALE = "document.querySelector('[value=picture]').click()"
+
+
 def call_of(name, *values):
     """A call of the function in a file beside this one, for values."""
     text = (TESTS / name).read_text().strip()
@@ -43,8 +47,9 @@ class DeskPage:
         self.ready()
 
     def ready(self):
-        """Waits until the page has begun."""
+        """Waits until the page has begun, and shows memory to scale."""
         self.tab.wait(lambda: self.value("!document.querySelector('#desk').hidden"), "the page doesn't begin")
+        self.value(TO_SCALE)
 
     def close(self):
         self.tab.close()
@@ -123,6 +128,10 @@ class DeskPage:
         """The bytes of the script, as it is saved."""
         self.click("save")
         return self.tab.downloaded(name)
+
+    def look(self, view):
+        """Chooses how memory is shown: through a lens, to scale, or as a map."""
+        self.value(f"document.querySelector('[value={view}]').click()")
 
     def show_pane(self, name):
         """Chooses what is seen where there is room for one pane."""

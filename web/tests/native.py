@@ -15,13 +15,15 @@ SECONDS = 120
 
 @dataclasses.dataclass
 class Job:
-    """What the program is to run: a script with its name, pages and files; and whether marked steps alone are drawn."""
+    """What the program is to run: a script with its name, pages and files; whether marked steps alone are drawn, and
+    whether through a lens."""
 
     script: bytes
     name: str = "script.desk"
     pages: int = 64
     files: dict = dataclasses.field(default_factory=dict)
     is_marked: bool = False
+    is_lens: bool = False
 
 
 def done(verb, job):
@@ -35,8 +37,9 @@ def done(verb, job):
             pathlib.Path(folder, name).write_bytes(content)
             words.append(f"{name}={folder}/{name}")
         marked = ["--marked"] if job.is_marked and verb != "run" else []
-        ran = subprocess.run([PROGRAM, verb, "--pages", str(job.pages), *marked, script, *words], capture_output=True,
-                             timeout=SECONDS)
+        lens = ["--lens"] if job.is_lens else []
+        ran = subprocess.run([PROGRAM, verb, "--pages", str(job.pages), *marked, *lens, script, *words],
+                             capture_output=True, timeout=SECONDS)
     return ran.returncode, ran.stdout
 
 
@@ -81,7 +84,7 @@ class Handler(http.server.BaseHTTPRequestHandler):
             return
         at = int(words["script"])
         job = Job(content[:at], words.get("name", "script.desk"), int(words["pages"]), unpacked(content[at:]),
-                  words["marked"] != "0")
+                  words["marked"] != "0", words.get("lens") == "1")
         status, text = done(address.path[1:], job)
         self.answer(200, text, status)
 

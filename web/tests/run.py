@@ -12,6 +12,7 @@ import checks_explained
 import checks_files
 import checks_kept
 import checks_layout
+import checks_lens
 import checks_lines
 import checks_looks
 import checks_maker
@@ -22,7 +23,7 @@ import checks_told
 import checks_use
 
 CHECKS = (checks_replies, checks_use, checks_lines, checks_files, checks_kept, checks_told, checks_picture,
-          checks_modules, checks_maker, checks_looks, checks_layout, checks_class, checks_explained)
+          checks_modules, checks_maker, checks_looks, checks_layout, checks_lens, checks_class, checks_explained)
 # So many tests go wrong before the others are given up: each may wait long for a page that doesn't begin.
 MOST_WRONG = 5
 # Tests of how long something takes, which no share has: other work beside them would count.

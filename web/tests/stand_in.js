@@ -20,8 +20,9 @@ function posted(path, content) {
 }
 
 // What the server says of a job.
-function asked(verb, { pages, name, marked, script, files }) {
-  const words = new URLSearchParams({ pages, marked, name: new TextDecoder().decode(name), script: script.length });
+function asked(verb, { pages, name, marked, script, files, lens = 0 }) {
+  const spelled = new TextDecoder().decode(name);
+  const words = new URLSearchParams({ pages, marked, lens, name: spelled, script: script.length });
   return posted(`/${verb}?${words}`, new Blob([script, files]));
 }
 
@@ -57,12 +58,29 @@ function nativeCalls(memory) {
       written(memory, asked("draw", {
         pages, name: at(name, nameLength), marked, script: at(script, scriptLength), files: at(files, filesLength),
       }), text, textLength, needed),
+    // The program's lens has a size of its own.
+    vf_lens: (pages, pool, poolLength, numbers, numbersLength, script, scriptLength, name, nameLength, files,
+      filesLength, marked, width, scale, text, textLength, needed) =>
+      written(memory, asked("draw", {
+        pages, name: at(name, nameLength), marked, script: at(script, scriptLength), files: at(files, filesLength),
+        lens: 1,
+      }), text, textLength, needed),
     vf_check: (kind, image, imageLength, text, textLength, needed) =>
       written(memory, checked(kind, at(image, imageLength)), text, textLength, needed),
   };
 }
 
-// The same calls, with the text that vf_run wrote last where tests find it.
+// A call that notes how wide and large the lens is that it was asked for, where tests find it.
+function notingLens(call) {
+  const noted = (...words) => {
+    const [width, scale] = words.slice(-5, -3);
+    globalThis.lastLens = { width, scale };
+    return call(...words);
+  };
+  return Object.defineProperty(noted, "length", { value: call.length });
+}
+
+// The same calls, with the text that vf_run wrote last, and the size of the last lens, where tests find them.
 function recording(calls) {
   const run = calls.vf_run;
   const recorded = (...words) => {
@@ -73,7 +91,8 @@ function recording(calls) {
     globalThis.lastText = status <= 1 ? new TextDecoder("latin1").decode(slice(calls.memory, text, length)) : "";
     return status;
   };
-  return { ...calls, vf_run: Object.defineProperty(recorded, "length", { value: run.length }) };
+  const lens = calls.vf_lens ? { vf_lens: notingLens(calls.vf_lens) } : {};
+  return { ...calls, ...lens, vf_run: Object.defineProperty(recorded, "length", { value: run.length }) };
 }
 
 // What a page without a module runs on.

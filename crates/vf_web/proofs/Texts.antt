@@ -12,6 +12,7 @@ use Rattle.rh_lines.specs.declared.whole_text.WholeText.{WholeText}
 use Rattle.rh_pictures.specs.Painted.{IsSheet, Painted}
 use Rattle.rh_session.specs.Outcome.{Finished, status_of}
 use Rattle.rh_session.specs.declared.status.Status.{Status}
+use Rattle.rh_pictures.specs.declared.sheet.form.SheetForm.{SheetForm}
 use Rattle.vf_web.specs.PageStatus.{bad_status, status_number}
 
 -- the text was written to the bytes that were lent, and the status says whether something was bad
@@ -66,14 +67,14 @@ map_ended marked p script old new status none f =
     subst P e (record { text = f.text; map = f.map; ends = ended old new (has_bad_line f.bytes) none f.written f.status_is })
 
 -- a text is the sheet of a script, and was written
-pub record SheetEnded (marked : Bool) (name : List ℕ) (d : Desk) (script : List ℕ) (old new : WholeText) (status : Status) : Type 0 where
+pub record SheetEnded (form : SheetForm) (name : List ℕ) (d : Desk) (script : List ℕ) (old new : WholeText) (status : Status) : Type 0 where
   pub text : List ℕ
-  pub sheet : IsSheet marked name d (read_lines script) text
+  pub sheet : IsSheet form name d (read_lines script) text
   pub ends : Ended old new text (has_bad_line script) status
 
-pub sheet_ended : (marked : Bool) (name : List ℕ) (d : Desk) (script : List ℕ) (old new : WholeText) (status : Status) → whole_text old ≡ []
-    → Painted marked name d (unread script) (unread []) (output_of old) (output_of new) status → SheetEnded marked name d script old new status
-sheet_ended marked name d script old new status none f =
+pub sheet_ended : (form : SheetForm) (name : List ℕ) (d : Desk) (script : List ℕ) (old new : WholeText) (status : Status) → whole_text old ≡ []
+    → Painted form name d (unread script) (unread []) (output_of old) (output_of new) status → SheetEnded form name d script old new status
+sheet_ended form name d script old new status none f =
     let e = read_whole script f.bytes f.read in
-    let P : List ℕ → Type 0 = λ b. SheetEnded marked name d b old new status in
+    let P : List ℕ → Type 0 = λ b. SheetEnded form name d b old new status in
     subst P e (record { text = f.text; sheet = f.sheet; ends = ended old new (has_bad_line f.bytes) none f.written f.status_is })

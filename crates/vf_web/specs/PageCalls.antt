@@ -6,6 +6,7 @@ use Rattle.rh_figure.specs.Map.{Place, read_lines}
 use Rattle.rh_figure.specs.Whole.{IsMap}
 use Rattle.rh_lines.specs.WholeText.{filled}
 use Rattle.rh_pictures.specs.Painted.{IsSheet}
+use Rattle.rh_pictures.specs.declared.sheet.form.SheetForm.{SheetForm}
 use Rattle.vf_web.specs.PageStatus.{text_status}
 
 -- a text was written over the old bytes, as far as they have room for it; so many bytes were said to be needed
@@ -21,9 +22,9 @@ pub record MapTold (marked : Bool) (p : Place) (script : List ℕ) (status : ℕ
   pub given : ToldText text (has_bad_line script) status old new needed
 
 -- that text is the sheet of a script with a name, over a desk
-pub record SheetTold (marked : Bool) (name : List ℕ) (d : Desk) (script : List ℕ) (status : ℕ) (old new : List ℕ) (needed : ℕ) : Type 0 where
+pub record SheetTold (form : SheetForm) (name : List ℕ) (d : Desk) (script : List ℕ) (status : ℕ) (old new : List ℕ) (needed : ℕ) : Type 0 where
   pub text : List ℕ
-  pub sheet : IsSheet marked name d (read_lines script) text
+  pub sheet : IsSheet form name d (read_lines script) text
   pub given : ToldText text (has_bad_line script) status old new needed
 
 -- nothing was written, and nothing was said to be needed

@@ -13,21 +13,24 @@ mod status;
 #[cfg(test)]
 mod tests;
 
-ghost use Rattle.std.specs.Prelude.{◌≡◌, ◌≢◌, ◌<◌, is_some, length, not, ◌==◌};
+ghost use Rattle.std.specs.Prelude.{◌≡◌, ◌≢◌, ◌<◌, is_some, length, not, ◌==◌, None, Some};
 ghost use Rattle.rh_defs.specs.HeapImage.{fault_of};
 ghost use Rattle.rh_defs.specs.Runs.{start};
 ghost use Rattle.rh_defs.specs.Script.{script_text, has_bad_line};
 ghost use Rattle.rh_slot.specs.SlotChecks.{slot_fault_of};
 ghost use Rattle.rh_figure.specs.Map.{map_start};
+ghost use Rattle.rh_pictures.specs.LensSizes.{IsLensSize};
 ghost use Rattle.rh_run.specs.Checked.{image_line};
 ghost use Rattle.rh_run.specs.CheckedSlot.{slot_image_line};
 ghost use Rattle.vf_web.specs.PageCalls.{MapTold, SheetTold, ToldText, Untouched};
 ghost use Rattle.vf_web.specs.Packed.{files_of};
 ghost use Rattle.vf_web.specs.PageStatus.{lent_status};
+ghost use Rattle.vf_web.specs.declared.status.TheConstants.{BAD_LENS};
 
 use crate::lent::lent_files;
 use crate::memory::store_over;
-use crate::status::BAD_PAGES;
+use crate::status::{BAD_LENS, BAD_PAGES};
+use rh_pictures::{LensSize, SheetForm};
 
 /// Runs a script over a fresh desk, and writes the text of all replies.
 #[unsafe(no_mangle)]
@@ -100,7 +103,7 @@ pub extern "C" fn vf_draw(
         (length script.now) files.now in
         refusal ≢ 0 → Untouched result refusal text.old text.new needed.old needed.new }
     ensures text { lent_status pages (length pool.old) (length numbers.old) (length script.now) files.now ≡ 0 →
-        SheetTold (not (marked == 0)) name.now (start pages
+        SheetTold (record { marked = not (marked == 0); lens = None }) name.now (start pages
         (files_of files.now)) script.now result text.old text.new needed.new }
 {
     let files = match lent_files(pages, pool.len(), numbers.len(), script.len(), files) {
@@ -108,7 +111,51 @@ pub extern "C" fn vf_draw(
         Err(status) => return status,
     };
     let store = store_over(pages, pool, numbers);
-    running::sheet(store, files, script, marked != 0, name, text, needed)
+    let form = SheetForm::at_true_scale(marked != 0);
+    running::sheet(store, files, script, form, name, text, needed)
+}
+
+/// Runs a script with a name over a fresh desk, and writes its sheet as `vf_draw` does, with areas through a lens so
+/// many units wide, with so many units for 8 bytes.
+#[unsafe(no_mangle)]
+pub extern "C" fn vf_lens(
+    pages: u32,
+    pool: &mut [u8],
+    numbers: &mut [u16],
+    script: &[u8],
+    name: &[u8],
+    files: &[u8],
+    marked: u32,
+    width: u32,
+    scale: u32,
+    text: &mut [u8],
+    needed: &mut usize,
+) -> u32
+    ensures refused { let refusal = lent_status pages (length pool.old) (length numbers.old)
+        (length script.now) files.now in
+        refusal ≢ 0 → Untouched result refusal text.old text.new needed.old needed.new }
+    ensures size { lent_status pages (length pool.old) (length numbers.old) (length script.now) files.now ≡ 0 →
+        (IsLensSize (record { width = width; scale = scale }) → ⊥) →
+        Untouched result BAD_LENS text.old text.new needed.old needed.new }
+    ensures text { lent_status pages (length pool.old) (length numbers.old) (length script.now) files.now ≡ 0 →
+        IsLensSize (record { width = width; scale = scale }) →
+        SheetTold (record { marked = not (marked == 0); lens = Some (record { width = width; scale = scale }) })
+        name.now (start pages (files_of files.now)) script.now result text.old text.new needed.new }
+{
+    let files = match lent_files(pages, pool.len(), numbers.len(), script.len(), files) {
+        Ok(files) => files,
+        Err(status) => return status,
+    };
+    let lens = LensSize { width, scale }.if_drawable();
+    if lens.is_none() {
+        return BAD_LENS;
+    }
+    let store = store_over(pages, pool, numbers);
+    let form = SheetForm {
+        marked: marked != 0,
+        lens,
+    };
+    running::sheet(store, files, script, form, name, text, needed)
 }
 
 /// Writes what the heap (0) or the slot (1) of these bytes consists of, or what is wrong first with bytes that are

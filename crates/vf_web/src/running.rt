@@ -1,18 +1,20 @@
 //! What a script gives, its replies, its map or its sheet, in bytes that a caller lends.
 
-ghost use Rattle.std.specs.Prelude.{◌≡◌, ◌≤◌, length, nat_lt, if◌then◌else◌};
+ghost use Rattle.std.specs.Prelude.{◌≡◌, ◌≤◌, length, nat_lt, IfSome, if◌then◌else◌};
 ghost use Rattle.rh_defs.specs.Memory.{fresh};
 ghost use Rattle.rh_defs.specs.Runs.{start};
 ghost use Rattle.rh_defs.specs.Script.{has_bad_line, script_text};
 ghost use Rattle.rh_defs.specs.declared.sizes.TheConstants.{MAX_PAGES, MIN_PAGES};
 ghost use Rattle.rh_session.specs.declared.feeding.TheConstants.{LONGEST_SCRIPT};
 ghost use Rattle.rh_figure.specs.Map.{map_start};
+ghost use Rattle.rh_pictures.specs.LensSizes.{IsLensSize};
 ghost use Rattle.vf_web.specs.PageCalls.{MapTold, SheetTold, ToldText};
 ghost use Rattle.vf_web.specs.PageStatus.{status_number};
 ghost use Rattle.vf_web.specs.declared.status.TheConstants.{SHORT_TEXT};
 
 use crate::status::{DONE, SHORT_TEXT, SOME_BAD};
 use rh_lines::WholeText;
+use rh_pictures::SheetForm;
 use rh_run::{Status, map_of, replies_of, sheet_of};
 use rh_store::{Sited, Store};
 use rh_tasks::NamedFiles;
@@ -64,7 +66,7 @@ pub fn sheet<S: Sited + Drop, F: NamedFiles + Drop>(
     store: S,
     files: F,
     script: &[u8],
-    marked: bool,
+    form: SheetForm,
     name: &[u8],
     text: &mut [u8],
     needed: &mut usize,
@@ -73,12 +75,13 @@ pub fn sheet<S: Sited + Drop, F: NamedFiles + Drop>(
     requires least { MIN_PAGES ≤ (S.memory store).pages }
     requires most { (S.memory store).pages ≤ MAX_PAGES }
     requires short { length script.now ≤ LONGEST_SCRIPT }
-    ensures text { SheetTold marked name.now (start (S.memory store).pages
+    requires lens { IfSome form.lens IsLensSize }
+    ensures text { SheetTold form name.now (start (S.memory store).pages
         (F.contents files)) script.now result text.old text.new needed.new }
 {
     let room = text.len();
     let mut writer = WholeText::new(text);
-    let status = sheet_of(store, files, script, &mut writer, marked, name).unwrap();
+    let status = sheet_of(store, files, script, &mut writer, form, name).unwrap();
     give_length(status, writer.length(), room, needed)
 }
 

@@ -1,4 +1,4 @@
-//! Statuses: how a call ended, as a number. Of those from 2 on a call ends with the first in this order: 2, 3, 5, 4.
+//! Statuses: how a call ended, as a number. Of those from 2 on a call ends with the first in this order: 2, 3, 5, 6, 4.
 
 /// The text was written, and no line was bad; or the bytes are a heap, or a slot.
 pub const DONE: u32 = 0;
@@ -17,3 +17,6 @@ pub const SHORT_TEXT: u32 = 4;
 
 /// The script has more than `rh_session::LONGEST_SCRIPT` bytes.
 pub const LONG_SCRIPT: u32 = 5;
+
+/// A lens isn't so wide, or has no such scale.
+pub const BAD_LENS: u32 = 6;

@@ -6,6 +6,7 @@ use rh_defs::sizes::{MAX_PAGES, PAGE};
 use rh_defs::{Files, Name};
 use rh_lines::Flagged;
 use rh_pages::LISTS;
+use rh_pictures::SheetForm;
 use rh_run::{draw_map, draw_sheet};
 use std::alloc::Global;
 use std::fmt::Debug;
@@ -295,7 +296,7 @@ fn native_text(alloc: Global, is_sheet: bool) -> Result<Vec<u8>, Fail> {
             &mut reader,
             &mut writer,
             PAGES,
-            false,
+            SheetForm::at_true_scale(false),
             b"a name",
         )
     } else {

@@ -10,7 +10,7 @@ unwrap-status-requires g c =
 
 pub returns : goal.returns
 returns g c =
-    let m = sheet_ended c.args.marked c.args.name.now _ c.args.script.now c.new-writer.result c.sheet_of.new.writer c.unwrap-status.result
+    let m = sheet_ended c.args.form c.args.name.now _ c.args.script.now c.new-writer.result c.sheet_of.new.writer c.unwrap-status.result
     c.new-writer.ensures.text (rw c.unwrap-status.ensures at c.sheet_of.ensures.ok) in
     let e = m.ends in
     let same = sym (e.same ∙ c.new-writer.ensures.same_reference) in
