@@ -1,9 +1,7 @@
 //! The store with its maps.
-ghost use Rattle.std.specs.Prelude.{◌≡◌, false, IfOk};
-
-use crate::maps::{AREA_NUMBERS, Map, PAGE_WORDS, forget, spoil, unknown, widened};
+use crate::maps::{AREA_NUMBERS, Map, blank_maps, forget, is_enough, spoil, widened};
 use crate::needs::Needs;
-use rh_defs::sizes::{MAX_AREAS, PAGE, WORD};
+use rh_defs::sizes::{PAGE, WORD};
 use rh_store::{
     AreaId, LINE_BYTES, Paged, Pages, Sited, Starts, Store, StoreFault, Words, WordsMut,
 };
@@ -31,30 +29,19 @@ impl<S: Store> Model for IndexedStore<S> {
     ghost invariant = { λ s. AreTied (S.memory s.store) s.maps.items s.reach };
 }
 
-/// A map of no heap yet, with room for so many words.
-fn blank(alloc: Global, words: usize) -> Result<Map, AllocError>
-    ensures { IfOk result (λ starts. starts.known ≡ false) }
-{
-    let lines = Vec::with_capacity(alloc, words)?;
-    Ok(unknown(lines))
-}
-
 impl<S: Store + Drop> IndexedStore<S> {
     ghost use Rattle.std.specs.Prelude.{◌≡◌, IfOk};
 
     /// A store with a map for each area. The nth map has room for an area of the nth part of the pool, since the nth
-    /// longest area has no more. All memory is taken here: AllocError where it is refused, and then the store is
-    /// dropped.
+    /// longest area has no more; the first of them have room for numbers too, if memory for that is granted. All memory
+    /// is taken here: AllocError where it is refused, and then the store is dropped.
+    #[tactic(auto, using(crate::proofs::KeptLaws::tied_stale))]
     pub fn new(alloc: Global, store: S) -> Result<IndexedStore<S>, AllocError>
         ensures { IfOk result (λ mapped. mapped ≡ store) }
     {
         let pages = store.free_pages();
-        let mut maps = Vec::with_capacity(alloc, MAX_AREAS)?;
         let needs = Needs::new(alloc)?;
-        for rank in 1..=MAX_AREAS {
-            let starts = blank(alloc, PAGE_WORDS * (pages / rank))?;
-            maps.push(Some(starts))?;
-        }
+        let maps = blank_maps(alloc, pages)?;
         Ok(IndexedStore {
             store,
             maps,
@@ -95,7 +82,7 @@ impl<S: Store> Words for IndexedStore<S> {
         match &self.maps[k] {
             Some(starts) => {
                 if starts.known && starts.at == at {
-                    Some(starts.lines.as_slice())
+                    Some(starts.lines.as_slice().split_at(starts.split).0)
                 } else {
                     None
                 }
@@ -142,19 +129,28 @@ impl<S: Store> WordsMut for IndexedStore<S> {
             return None;
         };
         let words = 2 * self.store.len(id).div_ceil(LINE_BYTES);
-        if words <= starts.lines.len() {
+        if is_enough(&starts, words) {
             return Some(starts);
         }
-        widened(&mut self.maps, &self.needs, k, starts.lines, words)
+        widened(&mut self.maps, &self.needs, k, starts, words)
     }
 
     #[inline(always)]
-    fn keep_starts(&mut self, id: AreaId, lines: Vec<u64>, known: bool, at: usize, upper: usize) {
+    fn keep_starts(
+        &mut self,
+        id: AreaId,
+        lines: Vec<u64>,
+        split: usize,
+        known: bool,
+        at: usize,
+        upper: usize,
+    ) {
         let k = id.0 as usize;
         if k < self.maps.len() {
             self.reach[k] = upper;
             self.maps[k] = Some(Starts {
                 lines,
+                split,
                 known,
                 at,
                 upper,

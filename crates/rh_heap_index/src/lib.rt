@@ -6,6 +6,7 @@ mod indexed_store;
 mod maps;
 mod native;
 mod needs;
+mod rows;
 
 pub use indexed_store::IndexedStore;
 pub use native::{PageStore, page_store};

@@ -1,5 +1,5 @@
 //! How many pages each area has, by its number: an area with few gives its lines to one that needs more.
-use crate::maps::PAGE_WORDS;
+use crate::rows::PAGE_WORDS;
 use rh_defs::sizes::MAX_AREAS;
 use std::alloc::{AllocError, Global};
 

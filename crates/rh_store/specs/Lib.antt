@@ -3,4 +3,5 @@ pub mod Shares
 pub mod Areas
 pub mod Plain
 pub mod Starts
+pub mod Tracts
 pub mod Inner

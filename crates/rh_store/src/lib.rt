@@ -30,5 +30,5 @@ mod store;
 
 pub use plain::PlainStore;
 pub use sited::Sited;
-pub use starts::{BITS, HOLES, LINE_BYTES, Lines, NoLines, Starts, USED};
+pub use starts::{BITS, HOLES, LINE_BYTES, Lines, NoLines, Rows, Starts, TRACT_BYTES, USED};
 pub use store::{AreaId, Paged, Pages, Store, StoreFault, Words, WordsMut};

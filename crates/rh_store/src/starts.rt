@@ -1,6 +1,7 @@
-//! Maps of where the segments of an area's heap begin, which a store may keep beside the area. A map consists of lines
-//! of two words, each for 512 bytes of the heap: a bit for each 8 bytes, in one word for used segments and in the other
-//! for holes.
+//! Maps of where the segments of an area's heap begin, which a store may keep beside the area. A map consists of
+//! lines of two words, each for 512 bytes of the heap: a bit for each 8 bytes, in one word for used segments and in
+//! the other for holes. Behind its lines a map may have numbers of the heap's tracts, of 2,048 bytes each: bounds for
+//! the bytes of the holes that begin there.
 ghost use Rattle.std.specs.Prelude.{◌≡◌, ℕ, List, [], length};
 ghost use Rattle.std.specs.Borrow.{Array, Lends, sem, u64 as word};
 ghost use Rattle.std.proofs.Common.{rules};
@@ -14,6 +15,10 @@ pub const BITS: usize = 64;
 
 /// The bytes of a heap for which a map has one line, of two words.
 pub const LINE_BYTES: usize = BITS * HEAP_UNIT;
+
+/// The bytes of a tract of a heap: a map may have a number for each, no less than the bytes of each hole that begins in
+/// it.
+pub const TRACT_BYTES: usize = 4 * LINE_BYTES;
 
 /// The lane of a map that has the places of used segments.
 pub const USED: usize = 0;
@@ -84,11 +89,19 @@ impl Lines for NoLines {
     ghost written = { λ s ws h. Prim.search (rules, common_steps) };
 }
 
-/// A map that a store keeps: its lines, whether they are up to date, and from which offset of the area up to which the
-/// heap stands that they are of.
+/// The words of a map: its lines, and from word `split` on the numbers of tracts, if it has any.
+#[derive(Drop)]
+pub struct Rows<L> {
+    pub lines: L,
+    pub split: usize,
+}
+
+/// A map that a store keeps: its words, as `Rows` has them, whether they are up to date, and from which offset of the
+/// area up to which the heap stands that they are of.
 #[derive(Drop)]
 pub struct Starts<L> {
     pub lines: L,
+    pub split: usize,
     pub known: bool,
     pub at: usize,
     pub upper: usize,

@@ -6,8 +6,7 @@ ghost use Rattle.rh_defs.specs.Memory.{Memory, IsOpen, Ledger, bytes, with_bytes
 ghost use Rattle.rh_defs.specs.Memory.{open_below};
 ghost use Rattle.rh_defs.specs.HeapImage.{heap_of};
 ghost use Rattle.rh_store.specs.Limits.{area_limit, pool_limit};
-ghost use Rattle.rh_store.specs.Starts.{IsIndex, IsKept, IsMapOf};
-ghost use Rattle.rh_store.specs.declared.starts.TheConstants.{LINE_BYTES};
+ghost use Rattle.rh_store.specs.Starts.{HasRows, IsIndex, IsKept, IsMapOf};
 ghost use Rattle.rh_defs.specs.declared.sizes.TheConstants.{MAX_AREAS, PAGE};
 
 use crate::starts::{Lines, Starts};
@@ -108,28 +107,32 @@ pub trait WordsMut: Words {
         ensures { Self.memory self.new ≡ with_bytes (Self.memory self.old) id.0
             (with_part (bytes (Self.memory self.old) id.0) at from.now) };
 
-    /// Takes the map that the store keeps of an area, if it keeps one. It has lines for all of the area.
+    /// Takes the map that the store keeps of an area, if it keeps one. It has lines for all of the area, and numbers
+    /// for all of its tracts or none.
     fn take_starts(&mut self, _id: AreaId) -> Option<Starts<Self::Lines>>
         requires opened { IsOpen (Self.memory self.old) _id.0 }
         ensures same { Self.memory self.new ≡ Self.memory self.old }
         ensures kept { IfSome result (IsKept Self.Lines.words (bytes (Self.memory self.old) _id.0)) }
-        ensures long { IfSome result (λ starts. length (bytes (Self.memory self.old) _id.0) ≤ LINE_BYTES *
-            (length (Self.Lines.words starts.lines) / 2)) }
+        ensures rows { IfSome result (λ starts. HasRows (Self.Lines.words starts.lines) starts.split
+            (length (bytes (Self.memory self.old) _id.0))) }
     {
         None
     }
 
-    /// Keeps the lines of a map of an area that was taken, whether they are up to date, and from which offset of the
-    /// area up to which the heap stands that they are of.
+    /// Keeps the words of a map of an area that was taken: its lines, from word `split` on numbers of tracts, whether
+    /// they are up to date, and from which offset of the area up to which the heap stands that they are of.
     fn keep_starts(
         &mut self,
         _id: AreaId,
         _lines: Self::Lines,
+        _split: usize,
         _known: bool,
         _at: usize,
         _upper: usize,
     )
-        requires { _known ≡ true → IsMapOf (Self.Lines.words _lines) (bytes (Self.memory self.old) _id.0) _at _upper }
+        requires rows { HasRows (Self.Lines.words _lines) _split 0 }
+        requires map { _known ≡ true →
+            IsMapOf (Self.Lines.words _lines) _split (bytes (Self.memory self.old) _id.0) _at _upper }
         ensures { Self.memory self.new ≡ Self.memory self.old }
     {}
 }

@@ -6,6 +6,7 @@ invariant_of-self g c =
     record {
       kept = kept_grow (g.S.Words.memory c.self.inside.store) (g.S.Words.memory c.grow.new.self) _ c.args.id.0 c.args.pages c.grow.result
           c.self.invariant.kept c.grow.ensures.ok c.grow.ensures.err;
+      laid = c.self.invariant.laid;
       reached = c.self.invariant.reached;
     }
 
@@ -14,5 +15,6 @@ invariant_of-self-2 g c =
     record {
       kept = kept_grow (g.S.Words.memory c.self.inside.store) (g.S.Words.memory c.grow.new.self) _ c.args.id.0 c.args.pages c.grow.result
           c.self.invariant.kept c.grow.ensures.ok c.grow.ensures.err;
+      laid = c.self.invariant.laid;
       reached = c.self.invariant.reached;
     }

@@ -6,5 +6,6 @@ invariant_of-self g c =
     record {
       kept = kept_open (g.S.Words.memory c.self.inside.store) (g.S.Words.memory c.open.new.self) _ c.open.result c.self.invariant.kept
           c.open.ensures.ok c.open.ensures.err;
+      laid = c.self.invariant.laid;
       reached = c.self.invariant.reached;
     }
