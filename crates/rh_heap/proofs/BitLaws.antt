@@ -126,6 +126,37 @@ scan_next lane starts n line word line' word' s e next small read =
       passed = λ j past below. none_from lane starts n line word s e j (omega arith) below;
     }
 
+-- and so are lines before it that have none
+pub scan_jump : (lane : ℕ) (starts : List ℕ) (n line word behind line' word' : ℕ) → Scan lane starts n line word → word ≡ 0 → behind ≤ line → behind ≡ line' + 1
+    → ((j : ℕ) → BITS * behind ≤ j → j < BITS * line → bit lane starts j ≡ 0) → word' < 2 ^ 64 → word' ≡ get_or starts (2 * line' + lane) 0
+    → Scan lane starts n line' word'
+scan_jump lane starts n line word behind line' word' s e on next empty small read =
+    let up = s.up_to in
+    let room = s.inside in
+    record {
+      small = small;
+      inside = omega arith;
+      up_to = omega arith;
+      here = λ i l below. ap (λ w. bit_at w i) read ∙ sym (bit_of_line lane starts line' i l);
+      above = λ i l past. absurd (omega arith);
+      passed = λ j past below. elim (cases_lt j (BITS * line)) [
+        | inl l ↦ empty j (omega arith) l
+        | inr r ↦ none_from lane starts n line word s e j r below
+      ];
+    }
+
+-- or no line is left
+pub scan_ends : (lane : ℕ) (starts : List ℕ) (n line word : ℕ) → Scan lane starts n line word → word ≡ 0
+    → ((j : ℕ) → j < BITS * line → bit lane starts j ≡ 0) → (j : ℕ) → j < n → bit lane starts j ≡ 0
+scan_ends lane starts n line word s e empty j below = elim (cases_lt j (BITS * line)) [
+  | inl l ↦ empty j l
+  | inr r ↦ none_from lane starts n line word s e j r below
+]
+
+-- a bit that isn't 1 is 0
+pub bit_zero : (lane : ℕ) (starts : List ℕ) (j : ℕ) → bit lane starts j ≢ 1 → bit lane starts j ≡ 0
+bit_zero lane starts j ne = let few = bit_at-lt (get_or starts (2 * (j / BITS) + lane) 0) (j % BITS) in omega arith
+
 -- what a test of a bit says
 pub not_set : (r : Bool) (n : ℕ) → r ≡ eqb n 1 → r ≡ false → n ≢ 1
 not_set r n e f one = let same = eqb_same n 1 one in let z : true ≡ false = sym same ∙ sym e ∙ f in absurd cc

@@ -9,19 +9,11 @@ use Rattle.rh_defs.specs.Heap.{is_hole_for, placed_in, block_room, need, claim_b
 use Rattle.rh_defs.specs.declared.heap.HeapRefusal.TheVariants.{BadSize, NoRoom}
 use Rattle.rh_defs.proofs.HeapLists.{tidy_join, leb_yes}
 use Rattle.rh_defs.proofs.HeapLaws.{last_link_range, NextHole, next_hole}
+use Rattle.rh_heap.specs.Inner.HolesPassed.{Passed}
 use Rattle.rh_heap.proofs.StretchLaws.{below_block, is_stretch}
 use Rattle.rh_heap.proofs.FillLaws.{filled_between, topped}
 
 -- ---- the walk over the holes
-
--- the holes before a link are passed: none of them has room
-pub record Passed (at : ℕ) (h : Heap) (t from : ℕ) : Type 0 where
-  pub before : List Segment
-  pub rest : List Segment
-  pub is : h.segments ≡ before ++ rest
-  pub link : at + from ≡ last_link (at + 4) (at + 16) before
-  pub none : NonePass size_of (is_hole_for t) 16 before
-  pub inside : from + 4 ≤ base h
 
 pub passed_start : (at : ℕ) (h : Heap) (t : ℕ) → Passed at h t 4
 passed_start at h t = record { before = []; rest = h.segments; is = refl; link = refl; none = tt; inside = omega arith }

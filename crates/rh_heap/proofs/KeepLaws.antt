@@ -84,7 +84,7 @@ gap_holes p low place link from (Hole n ∷ []) bs after (a_gap _ e f) off =
 gap_holes p low place link from (Used cs ∷ ss) bs after k off = elim k [ ]
 gap_holes p low place link from (Hole n ∷ x ∷ ss) bs after k off = elim k [ ]
 
-gap_order : (low place link from : ℕ) (gap : List Segment) → GapIs low place link from gap → low ≤ place
+pub gap_order : (low place link from : ℕ) (gap : List Segment) → GapIs low place link from gap → low ≤ place
 gap_order low place link from [] (no_gap e f) = omega arith
 gap_order low place link from (Hole n ∷ []) (a_gap _ e f) = omega arith
 gap_order low place link from (Used cs ∷ ss) k = elim k [ ]

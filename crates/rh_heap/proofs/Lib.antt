@@ -22,4 +22,7 @@ pub mod IndexLaws
 pub mod KeepLaws
 pub mod MapLaws
 pub mod MapShapes
+pub mod TractLaws
+pub mod PeakKeeps
+pub mod RowLaws
 pub mod Common

@@ -1,7 +1,7 @@
 -- A block that moves.
 use Rattle.rh_heap.proofs.Common.{◌≡◌, ℕ, zero, suc, ◌+◌, ◌-◌, ◌%◌, ◌<◌, ◌≤◌, ◌⊎◌, inl, inr, Bool, false, true, cond, eqb, List, [], ◌∷◌, ◌++◌, length}
 use Rattle.rh_heap.proofs.Common.{replicate, refl, sym, ap, subst, ◌∙◌, append_assoc, arith, Option, Some, None, IfSome, Ok, option_map, word, part}
-use Rattle.rh_heap.proofs.Common.{SameOutside, total, Split, first_at, Segment, Used, Hole, Heap, Placed, IsTidy, size_of, base, with_hole, fitted}
+use Rattle.rh_heap.proofs.Common.{SameOutside, total, Split, first_at, Segment, Used, Hole, Heap, Placed, IsTidy, size_of, with_hole, fitted}
 use Rattle.rh_heap.proofs.Common.{hole_for, placed_block, release_block, shortage_in, block_at, is_block_at, released_at, way_to, resized_by, zeros, Stand}
 use Rattle.rh_heap.proofs.Common.{Spells, part_more, HasRoom-from_tidy, HasRoom-append, total-append, tidy_behind_used, cond_true, eqb_same, Stand-split}
 use Rattle.rh_heap.proofs.Common.{released_at-some, link_place, HasStretch-kept, opened, closed, FoundBlock, Memory, heap_of-Spells, SpellsHeapIn, bytes_in}

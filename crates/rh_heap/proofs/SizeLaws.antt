@@ -8,7 +8,8 @@ use Rattle.rh_defs.proofs.HeapLists.{sum-append}
 use Rattle.rh_defs.proofs.HeapStretch.{Stand-kept}
 use Rattle.rh_heap.specs.Segments.{piece}
 use Rattle.rh_heap.proofs.StretchLaws.{word_below}
-use Rattle.rh_heap.proofs.ClaimLaws.{Passed, HoleTurn}
+use Rattle.rh_heap.specs.Inner.HolesPassed.{Passed}
+use Rattle.rh_heap.proofs.ClaimLaws.{HoleTurn}
 
 -- ---- sizes
 pub size_answer : (at : ℕ) (h : Heap) (address : ℕ) (spot : Spot) (e : HeapRefusal) → FoundBlock at h address spot

@@ -9,3 +9,4 @@ pub mod Inner
 pub mod Listed
 pub mod Segments
 pub mod Stretches
+pub mod TractNumbers

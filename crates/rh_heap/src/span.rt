@@ -5,6 +5,7 @@ pub mod holes;
 pub mod indexed;
 pub mod kept;
 pub mod list;
+pub mod peaks;
 pub mod release;
 pub mod resize;
 pub mod segments;

@@ -1,5 +1,5 @@
 -- How a stretch becomes a hole.
-use Rattle.std.specs.Prelude.{ℕ, ◌+◌, ◌-◌, true, List, ◌∷◌, ◌++◌}
+use Rattle.std.specs.Prelude.{ℕ, ◌-◌, true, List, ◌∷◌, ◌++◌}
 use Rattle.rh_defs.specs.Heap.{Segment, Hole, IsTidy}
 use Rattle.rh_defs.specs.HeapImage.{Spells}
 use Rattle.rh_heap.specs.declared.span.stretch.Stretch.{Stretch}

@@ -8,30 +8,31 @@ ghost use Rattle.rh_defs.specs.Heap.{block_around, block_size, claim_block, exte
 ghost use Rattle.rh_defs.specs.Heap.{resize_block};
 ghost use Rattle.rh_heap.specs.HeapSpans.{IsSpan, bytes_in, heap_in};
 ghost use Rattle.rh_heap.specs.HeapCalls.{LeavesHeap};
-ghost use Rattle.rh_store.specs.Starts.{IsIndex};
+ghost use Rattle.rh_store.specs.Starts.{AreRowsOf, HasRows};
 ghost use Rattle.rh_defs.specs.declared.sizes.TheConstants.{HEAP_UNIT};
-ghost use Rattle.rh_store.specs.declared.starts.TheConstants.{LINE_BYTES};
 
 use crate::span::indexed::{
-    block_size_in, claim_in, holds_in, index, release_in, resize_in, resize_need_in,
+    block_size_in, claim_by, holds_in, index, release_by, resize_by, resize_need_in,
 };
+use crate::span::peaks::index_peaks;
 use crate::span::words::read;
 use crate::span::{Span, claim, release, resize, segments, whole};
 use rh_defs::HeapRefusal;
 use rh_defs::sizes::{HEAP_BASE, HEAP_END};
-use rh_store::{Lines, Starts, Words, WordsMut};
+use rh_store::{Lines, Rows, Starts, Words, WordsMut};
 
 /// The bytes up to a heap's base from which a map pays: those below hold too few segments.
 const SHORT: usize = 1024;
 
 /// Takes the map that the store keeps of the heap, where it is up to date. No call finds it until it is kept again.
 #[inline(always)]
-pub fn take_map<S: WordsMut>(store: &mut S, span: Span) -> Option<S::Lines>
+pub fn take_map<S: WordsMut>(store: &mut S, span: Span) -> Option<Rows<S::Lines>>
     requires { IsSpan (S.memory store.old) span }
     ensures same { S.memory store.new ≡ S.memory store.old }
-    ensures index { IfSome result (λ lines. IsIndex (S.Lines.words lines) (heap_in (S.memory store.old) span)) }
-    ensures long { IfSome result (λ lines. length (bytes_in (S.memory store.old) span) ≤ LINE_BYTES *
-        (length (S.Lines.words lines) / 2)) }
+    ensures index { IfSome result (λ rows. AreRowsOf (S.Lines.words rows.lines) rows.split
+        (heap_in (S.memory store.old) span)) }
+    ensures long { IfSome result (λ rows. HasRows (S.Lines.words rows.lines) rows.split
+        (length (bytes_in (S.memory store.old) span))) }
 {
     if store.starts(span.area, span.at).is_none() {
         return None;
@@ -41,37 +42,42 @@ pub fn take_map<S: WordsMut>(store: &mut S, span: Span) -> Option<S::Lines>
 
 /// Takes the map that the store keeps of the heap, and makes it anew where it isn't up to date.
 #[inline(always)]
-fn take_lines<S: WordsMut>(store: &mut S, span: Span) -> Option<S::Lines>
+fn take_lines<S: WordsMut>(store: &mut S, span: Span) -> Option<Rows<S::Lines>>
     requires { IsSpan (S.memory store.old) span }
     ensures same { S.memory store.new ≡ S.memory store.old }
-    ensures index { IfSome result (λ lines. IsIndex (S.Lines.words lines) (heap_in (S.memory store.old) span)) }
-    ensures long { IfSome result (λ lines. length (bytes_in (S.memory store.old) span) ≤ LINE_BYTES *
-        (length (S.Lines.words lines) / 2)) }
+    ensures index { IfSome result (λ rows. AreRowsOf (S.Lines.words rows.lines) rows.split
+        (heap_in (S.memory store.old) span)) }
+    ensures long { IfSome result (λ rows. HasRows (S.Lines.words rows.lines) rows.split
+        (length (bytes_in (S.memory store.old) span))) }
 {
     let Some(starts) = store.take_starts(span.area) else {
         return None;
     };
     let Starts {
         mut lines,
+        split,
         known,
         at,
         upper: _,
     } = starts;
     if known && at == span.at {
-        return Some(lines);
+        return Some(Rows { lines, split });
     }
-    index(store, span, lines.as_mut_slice());
-    Some(lines)
+    let (starts, peaks) = lines.as_mut_slice().split_at_mut(split);
+    index(store, span, starts);
+    index_peaks(store, span, peaks);
+    Some(Rows { lines, split })
 }
 
 /// Takes a map of the heap for a call that changes it: of a short heap only where it is up to date.
 #[inline(always)]
-fn map_for_change<S: WordsMut>(store: &mut S, span: Span) -> Option<S::Lines>
+fn map_for_change<S: WordsMut>(store: &mut S, span: Span) -> Option<Rows<S::Lines>>
     requires { IsSpan (S.memory store.old) span }
     ensures same { S.memory store.new ≡ S.memory store.old }
-    ensures index { IfSome result (λ lines. IsIndex (S.Lines.words lines) (heap_in (S.memory store.old) span)) }
-    ensures long { IfSome result (λ lines. length (bytes_in (S.memory store.old) span) ≤ LINE_BYTES *
-        (length (S.Lines.words lines) / 2)) }
+    ensures index { IfSome result (λ rows. AreRowsOf (S.Lines.words rows.lines) rows.split
+        (heap_in (S.memory store.old) span)) }
+    ensures long { IfSome result (λ rows. HasRows (S.Lines.words rows.lines) rows.split
+        (length (bytes_in (S.memory store.old) span))) }
 {
     if read(store, span, HEAP_BASE) < SHORT && store.starts(span.area, span.at).is_none() {
         return None;
@@ -81,16 +87,18 @@ fn map_for_change<S: WordsMut>(store: &mut S, span: Span) -> Option<S::Lines>
 
 /// Lets the store keep a map of the heap that was taken from it, as the heap is now.
 #[inline(always)]
-pub fn keep_map<S: WordsMut>(store: &mut S, span: Span, map: Option<S::Lines>)
+#[tactic(auto, using(crate::proofs::RowLaws::has_rows))]
+pub fn keep_map<S: WordsMut>(store: &mut S, span: Span, map: Option<Rows<S::Lines>>)
     requires span { IsSpan (S.memory store.old) span }
-    requires index { IfSome map (λ lines. IsIndex (S.Lines.words lines) (heap_in (S.memory store.old) span)) }
+    requires index { IfSome map (λ rows. AreRowsOf (S.Lines.words rows.lines) rows.split
+        (heap_in (S.memory store.old) span)) }
     ensures { S.memory store.new ≡ S.memory store.old }
 {
-    let Some(lines) = map else {
+    let Some(rows) = map else {
         return;
     };
     let upper = span.at + read(store, span, HEAP_END);
-    store.keep_starts(span.area, lines, true, span.at, upper);
+    store.keep_starts(span.area, rows.lines, rows.split, true, span.at, upper);
 }
 
 /// Claims a block of `n` bytes at least, all 0, and answers its address: in the first hole with room, or above all
@@ -100,11 +108,13 @@ pub fn claim<S: WordsMut>(store: &mut S, span: Span, n: u32) -> Result<usize, He
     ensures { LeavesHeap (S.memory store.old) (S.memory store.new) span
         (claim_block n (heap_in (S.memory store.old) span)) result }
 {
-    let Some(mut lines) = map_for_change(store, span) else {
+    let Some(rows) = map_for_change(store, span) else {
         return claim::claim(store, span, n);
     };
-    let result = claim_in(store, span, lines.as_mut_slice(), n);
-    keep_map(store, span, Some(lines));
+    let Rows { mut lines, split } = rows;
+    let (starts, peaks) = lines.as_mut_slice().split_at_mut(split);
+    let result = claim_by(store, span, starts, peaks, n);
+    keep_map(store, span, Some(Rows { lines, split }));
     result
 }
 
@@ -115,11 +125,13 @@ pub fn release<S: WordsMut>(store: &mut S, span: Span, address: usize) -> Result
     ensures { LeavesHeap (S.memory store.old) (S.memory store.new) span
         (no_answer (released_at address (heap_in (S.memory store.old) span))) result }
 {
-    let Some(mut lines) = map_for_change(store, span) else {
+    let Some(rows) = map_for_change(store, span) else {
         return release::release(store, span, address);
     };
-    let result = release_in(store, span, lines.as_mut_slice(), address);
-    keep_map(store, span, Some(lines));
+    let Rows { mut lines, split } = rows;
+    let (starts, peaks) = lines.as_mut_slice().split_at_mut(split);
+    let result = release_by(store, span, starts, peaks, address);
+    keep_map(store, span, Some(Rows { lines, split }));
     result
 }
 
@@ -136,11 +148,13 @@ pub fn resize<S: WordsMut>(
     ensures { LeavesHeap (S.memory store.old) (S.memory store.new) span
         (resize_block address delta (heap_in (S.memory store.old) span)) result }
 {
-    let Some(mut lines) = map_for_change(store, span) else {
+    let Some(rows) = map_for_change(store, span) else {
         return resize::resize(store, span, address, delta);
     };
-    let result = resize_in(store, span, lines.as_mut_slice(), address, delta);
-    keep_map(store, span, Some(lines));
+    let Rows { mut lines, split } = rows;
+    let (starts, peaks) = lines.as_mut_slice().split_at_mut(split);
+    let result = resize_by(store, span, starts, peaks, address, delta);
+    keep_map(store, span, Some(Rows { lines, split }));
     result
 }
 
@@ -154,11 +168,11 @@ pub fn extend_heap<S: WordsMut>(store: &mut S, span: Span, delta: i32) -> Result
     ensures { LeavesHeap (S.memory store.old) (S.memory store.new) span
         (no_answer (extend_by delta (heap_in (S.memory store.old) span))) result }
 {
-    let Some(lines) = map_for_change(store, span) else {
+    let Some(rows) = map_for_change(store, span) else {
         return whole::extend_heap(store, span, delta);
     };
     let result = whole::extend_heap(store, span, delta);
-    keep_map(store, span, Some(lines));
+    keep_map(store, span, Some(rows));
     result
 }
 

@@ -1,5 +1,5 @@
 use Rattle.rh_heap.proofs.Common.{◌+◌, ◌-◌, LinksTo, base, bytes_in, heap_in}
-use Rattle.rh_heap.proofs.ClaimLaws.{Passed}
+use Rattle.rh_heap.specs.Inner.HolesPassed.{Passed}
 use Rattle.rh_heap.proofs.span.holes.find.Given as goal
 
 abbrev pub invariant-walk : goal.invariant-walk

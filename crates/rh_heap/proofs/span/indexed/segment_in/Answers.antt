@@ -1,6 +1,7 @@
 use Rattle.rh_heap.proofs.Common.{◌≡◌, ◌<◌, ◌*◌, ◌/◌, refl, ap, ◌∙◌, arith, base, bit, USED, bytes_in, heap_in}
 use Rattle.rh_heap.proofs.ListLaws.{block_around_place, hole_behind}
 use Rattle.rh_heap.proofs.WalkLaws.{found_here}
+use Rattle.rh_heap.proofs.PeakKeeps.{empty_peaks}
 use Rattle.rh_heap.proofs.span.indexed.segment_in.Goals as goal
 
 pub spot_at-block-requires-clause-marked : goal.spot_at-block-requires-clause-marked
@@ -34,3 +35,6 @@ returns g c =
     let hole = hole_behind b c.args.span.at h _ c.spot_at-block.result c.args.target c.follow.result s c.spot_at-block.ensures c.follow.ensures
     c.if-block-target-2.false c.if-follow-target.false inside in
     found_here _ h c.args.target _ s.heap.tidy (hole.around c.read-2.result c.read-2.ensures.value) refl
+
+pub spot_at-block-requires-clause-peaks : goal.spot_at-block-requires-clause-peaks
+spot_at-block-requires-clause-peaks g c = empty_peaks _
