@@ -1,5 +1,5 @@
 -- Blocks of the module area, by the bytes of the area.
-use Rattle.rh_module.proofs.Common.{◌≡◌, ℕ, ◌+◌, ◌≤◌, inl, inr, eqb, List, [], ◌∷◌, length, sym, ap, subst, ◌∙◌, arith, Option, Some, None, IfSome, Memory}
+use Rattle.rh_module.proofs.Common.{◌≡◌, ℕ, ◌+◌, ◌≤◌, inl, inr, eqb, List, [], ◌∷◌, length, sym, ap, subst, ◌∙◌, arith, Option, Some, Memory}
 use Rattle.rh_module.proofs.Common.{IsOpen, bytes, Heap, IsImage, heap_of-Spells, IsModule, SpellsModuleIn, module_heap_in, Module, Span}
 use Rattle.std.proofs.lemmas.Bool.{cases_eq}
 use Rattle.rh_defs.specs.Bytes.{word, part, with_part, put_word, word_bytes}
@@ -12,8 +12,6 @@ use Rattle.rh_defs.proofs.HeapLists.{cond_true, cond_false, eqb_same, eqb_apart}
 use Rattle.rh_defs.specs.Blocks.{bytes_at, block_bytes, poked, HasBlock, SameShape}
 use Rattle.rh_module.specs.Writes.{Wrote}
 use Rattle.rh_heap.specs.HeapSpans as spans
-use Rattle.rh_heap.proofs.MapShapes.{index_shape}
-use Rattle.rh_store.specs.Starts.{IsIndex}
 use Rattle.rh_defs.proofs.ShapeLaws.{poked-shape}
 use Rattle.rh_module.proofs.SpanLaws.{span_of, is_span, old_heap}
 use Rattle.rh_defs.proofs.BlockLaws.{range_at, IsImage-written}
@@ -100,11 +98,6 @@ unfolding put_word word_bytes
 wrote_word m n module_area a o w s b e = wrote m n module_area a o (word_bytes w) s b e
 
 -- ---- the map that is kept beside the area
-
-pub maps_on : {A : Type 0} (items : A → List ℕ) (h d : Heap) → SameShape d h → (o : Option A) → IfSome o (λ x. IsIndex (items x) h)
-    → IfSome o (λ x. IsIndex (items x) d)
-maps_on items h d s None i = tt
-maps_on items h d s (Some x) i = index_shape (items x) d h s i
 
 -- what was written in a block left the heap its shape
 pub same_shape : (m n : Memory) (module_area : Module) (a o : ℕ) (xs : List ℕ) (before behind : Span) → Wrote m n module_area a o xs → IsModule m module_area

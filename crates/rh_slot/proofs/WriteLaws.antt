@@ -1,13 +1,13 @@
 -- Bytes of the store are copied into a slot's block.
-use Rattle.rh_slot.proofs.Common.{◌≡◌, ℕ, ◌+◌, ◌≤◌, List, length, refl, sym, ap, subst, ◌∙◌, arith, Ok, Option, Some, None, IfSome, with_part, Granted}
+use Rattle.rh_slot.proofs.Common.{◌≡◌, ℕ, ◌+◌, ◌≤◌, List, length, refl, sym, ap, subst, ◌∙◌, arith, Ok, Option, IfSome, with_part, Granted}
 use Rattle.rh_slot.proofs.Common.{no_answer}
-use Rattle.rh_slot.proofs.Common.{Heap, Memory, bytes, Split, Flex, slot_put, SpellsSlot, length-put, bytes-with_bytes, OnlyArea-from_Edited, heap_in, Span}
+use Rattle.rh_slot.proofs.Common.{Memory, bytes, Split, Flex, slot_put, SpellsSlot, length-put, bytes-with_bytes, OnlyArea-from_Edited, heap_in, Span}
 use Rattle.rh_slot.proofs.Common.{IsSlotIn, slot_in, LeavesSlotIn, FoundAt}
 use Rattle.rh_defs.specs.Blocks.{SameShape}
 use Rattle.rh_defs.specs.Memory.{with_bytes}
 use Rattle.rh_defs.specs.Slot as plain
-use Rattle.rh_heap.proofs.MapShapes.{index_shape}
-use Rattle.rh_store.specs.Starts.{IsIndex}
+use Rattle.rh_heap.proofs.MapShapes.{rows_on}
+use Rattle.rh_store.specs.Starts.{AreRowsOf}
 use Rattle.rh_slot.specs.declared.slot.Slot.{Slot}
 use Rattle.rh_slot.proofs.AreaLaws.{Edited-put}
 use Rattle.rh_slot.proofs.EditLaws.{put_words, put_at}
@@ -39,14 +39,9 @@ put_copied m n slot k offset place size cut xs s f h e =
 
 -- ---- the map that is kept beside the slot
 
-maps_on : {A : Type 0} (items : A → List ℕ) (h d : Heap) → SameShape d h → (o : Option A) → IfSome o (λ x. IsIndex (items x) h)
-    → IfSome o (λ x. IsIndex (items x) d)
-maps_on items h d s None i = tt
-maps_on items h d s (Some x) i = index_shape (items x) d h s i
-
 -- what was written in the slot left its C heap the shape
-pub map_after : {A : Type 0} (items : A → List ℕ) (m n : Memory) (slot : Slot) (s : plain.Slot) (before behind : Span) → slot_in n slot ≡ s
-    → SameShape s.heap (slot_in m slot).heap → before ≡ span_of slot
-    → behind ≡ span_of slot → (o : Option A) → IfSome o (λ x. IsIndex (items x) (heap_in m before)) → IfSome o (λ x. IsIndex (items x) (heap_in n behind))
-map_after items m n slot s before behind is shape e f =
-    maps_on items (heap_in m before) (heap_in n behind) (rw (heap_at n slot behind f, is, heap_at m slot before e) shape)
+pub map_after : {A : Type 0} (words : A → List ℕ) (split : A → ℕ) (m n : Memory) (slot : Slot) (s : plain.Slot) (before behind : Span)
+    → slot_in n slot ≡ s → SameShape s.heap (slot_in m slot).heap → before ≡ span_of slot → behind ≡ span_of slot
+    → (o : Option A) → IfSome o (λ x. AreRowsOf (words x) (split x) (heap_in m before)) → IfSome o (λ x. AreRowsOf (words x) (split x) (heap_in n behind))
+map_after words split m n slot s before behind is shape e f =
+    rows_on words split (heap_in m before) (heap_in n behind) (rw (heap_at n slot behind f, is, heap_at m slot before e) shape)

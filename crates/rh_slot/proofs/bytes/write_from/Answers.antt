@@ -48,7 +48,7 @@ keep_map-requires-clause-index g c =
     let s = written_in c.args.address xs (buffer_at c.args.address c.args.room old) old in
     let l = copied m n c.args.slot (Ok (s, tt)) s _ _ refl (landed_budging _ _ _ r) (rw c.take_map-map.ensures.same at c.copy.ensures)
     (landed_spells _ _ _ _ c.requires.slot.spells r) in
-    map_after _ m n c.args.slot s _ _ l.slot (landed_shape _ _ _ r) c.span.ensures c.span-2.ensures c.take_map-map.result c.take_map-map.ensures.index
+    map_after _ _ m n c.args.slot s _ _ l.slot (landed_shape _ _ _ r) c.span.ensures c.span-2.ensures c.take_map-map.result c.take_map-map.ensures.index
 
 pub returns : goal.returns
 returns g c =

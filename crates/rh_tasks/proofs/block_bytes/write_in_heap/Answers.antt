@@ -76,7 +76,7 @@ keep_map-requires-clause-index g c =
     (rw c.take_map-map.ensures.same at c.copy_in.ensures) in
     let is = l.slot ∙ ap (left_of (slot_in m c.args.slot))
     (slot-granted m c.args.slot c.args.address c.args.offset some.0 c.args.from.now c.requires some.1.0 room) in
-    map_after _ m n c.args.slot s (span_of c.args.slot) (span_of c.args.slot) is (poked-shape (c.args.address - heap_start) c.args.offset c.args.from.now h)
+    map_after _ _ m n c.args.slot s (span_of c.args.slot) (span_of c.args.slot) is (poked-shape (c.args.address - heap_start) c.args.offset c.args.from.now h)
     refl refl c.take_map-map.result c.take_map-map.ensures.index
 
 pub returns : goal.returns

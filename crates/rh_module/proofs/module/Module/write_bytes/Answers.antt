@@ -1,5 +1,6 @@
 use Rattle.std.proofs.Common.{◌+◌, length, arith}
-use Rattle.rh_module.proofs.BlockBytes.{block_within, wrote, maps_on, same_shape, span_after}
+use Rattle.rh_heap.proofs.MapShapes.{rows_on}
+use Rattle.rh_module.proofs.BlockBytes.{block_within, wrote, same_shape, span_after}
 use Rattle.rh_module.proofs.module.Module.write_bytes.Goals as goal
 
 pub overflow_add-address : goal.overflow_add-address
@@ -31,7 +32,8 @@ keep_map-requires-clause-index g c =
     let n = g.S.Words.memory c.copy_in.new.self in
     let w = wrote m n c.args.self c.args.address c.args.offset c.args.from.now c.requires.module c.requires.block
     (rw c.take_map-map.ensures.same at c.copy_in.ensures) in
-    maps_on _ _ _ (same_shape m n c.args.self _ _ _ _ _ w c.requires.module c.span.ensures c.span-2.ensures) c.take_map-map.result c.take_map-map.ensures.index
+    let shape = same_shape m n c.args.self _ _ _ _ _ w c.requires.module c.span.ensures c.span-2.ensures in
+    rows_on _ _ _ _ shape c.take_map-map.result c.take_map-map.ensures.index
 
 pub returns : goal.returns
 returns g c =
