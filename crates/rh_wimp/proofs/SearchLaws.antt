@@ -11,7 +11,15 @@ use Rattle.rh_defs.specs.Post.{has_message}
 use Rattle.rh_wimp.proofs.PollLaws.{next-small}
 use Rattle.rh_wimp.proofs.RowEdits.{lies-above}
 use Rattle.rh_wimp.proofs.TakeLaws.{next-there}
-use Rattle.rh_wimp.specs.Inner.Searches.{AreShortChains, rows_have}
+use Rattle.rh_wimp.specs.Inner.Searches.{AreShortChains, has_code, rows_have}
+use Rattle.rh_wimp.specs.declared.searching.Wanted.TheVariants.{At}
+use Rattle.rh_defs.proofs.BytesLaws.{word-part}
+use Rattle.rh_defs.proofs.HeapLists.{leb_yes}
+use Rattle.rh_defs.specs.Messages.{code_at}
+use Rattle.rh_defs.specs.declared.message.EventCode.TheVariants.{Acknowledge, Recorded, User}
+use Rattle.rh_module.proofs.BlockBytes.{stands}
+use Rattle.std.specs.Prelude.{is_some, ◌&&◌}
+use Rattle.rh_wimp.proofs.Common.{EventCode, Entry, RowLies, RowsLie, code_number, code_read, entry_at, eqb_apart, wants}
 use Rattle.rh_wimp.proofs.PostLaws.{row-at, seat_at}
 
 -- what is left of a chain, from a block on
@@ -252,3 +260,56 @@ module _ (m : Memory) (module_area : Module) (block turn : ℕ) (test : Parcel �
     few = w.few;
     same = w.same ∙ ap (λ b. b || list_any test w.rest) (sym e ∙ et);
   }
+
+-- ---- what stands where a message has its event code
+code-told : (c : EventCode) → is_some (code_at (code_number c)) ≡ true
+code-told User = refl
+code-told Recorded = refl
+code-told Acknowledge = refl
+
+-- each message has one there
+coded : (m : Memory) (module_area : Module) (link : ℕ) (p : Parcel) → IsModule m module_area → link < 2 ^ 32 → Lies (module_heap_in m module_area) link p
+    → has_code p.block (bytes m module_area.area.0) ≡ true
+coded m module_area link p s small l =
+    let w = stands m module_area p.block (padded link p) s l.block in
+    let least = padded-least link p in
+    let within = w.within in
+    let code : word (bytes m module_area.area.0) (p.block + 4) ≡ code_number p.code =
+    sym (word-part (bytes m module_area.area.0) p.block (length (padded link p)) 4 (omega arith)) ∙ ap (λ b. word b 4) w.part
+    ∙ code_read link p small l.fits in
+    ap (λ t. t && is_some (code_at (word (bytes m module_area.area.0) (p.block + 4))))
+    (leb_yes (p.block + 8) (length (bytes m module_area.area.0)) (omega arith))
+    ∙ ap (λ n. is_some (code_at n)) code ∙ code-told p.code
+
+-- none stands where a message in the block would have it
+pub record Codeless (m : Memory) (module_area : Module) (block : ℕ) : Type 0 where
+  pub area : IsModule m module_area
+  pub small : length (bytes m module_area.area.0) ≤ area_limit
+  pub none : has_code block (bytes m module_area.area.0) ≡ false
+
+module _ (m : Memory) (module_area : Module) (block : ℕ) (w : Codeless m module_area block) where
+  elsewhere : (link : ℕ) (p : Parcel) → link < 2 ^ 32 → Lies (module_heap_in m module_area) link p → (p.block == block) ≡ false
+  elsewhere link p small l =
+      eqb_apart p.block block (λ z.
+      let e : true ≡ false = sym (coded m module_area link p w.area small l) ∙ ap (λ b. has_code b (bytes m module_area.area.0)) z ∙ w.none in
+      absurd cc)
+
+  chain_elsewhere : (ps : List Parcel) → Chain (module_heap_in m module_area) ps 0 → list_any (wants (At block)) ps ≡ false
+  chain_elsewhere [] c = refl
+  chain_elsewhere (p ∷ ps) c =
+      ap (λ t. t || list_any (wants (At block)) ps)
+      (elsewhere (first_block ps 0) p (next-small m module_area (first_block ps 0) w.area w.small (next-there (module_heap_in m module_area) ps c.1)) c.0)
+      ∙ chain_elsewhere ps c.1
+
+  held_elsewhere : (held : ℕ) (o : Option Parcel) → Holds (module_heap_in m module_area) held o → holds_such (wants (At block)) o ≡ false
+  held_elsewhere held None h = refl
+  held_elsewhere held (Some p) h = elsewhere 0 p (omega arith) h.1
+
+  row_elsewhere : (e : Entry) (r : SeatRow) → RowLies (module_heap_in m module_area) e r → list_any (wants (At block)) (row_parcels r) ≡ false
+  row_elsewhere e r l =
+      row-has (wants (At block)) r ∙ ap (λ t. t || holds_such (wants (At block)) r.held) (chain_elsewhere r.chain l.chain)
+      ∙ held_elsewhere e.held r.held l.held
+
+  -- where none stands, no message lies
+  pub rows_elsewhere : (es : List Entry) (rows : List SeatRow) → RowsLie (module_heap_in m module_area) es rows → rows_have (wants (At block)) rows ≡ false
+  rows_elsewhere es rows l = none-have (wants (At block)) rows (λ j b. row_elsewhere (entry_at es j) (row_at rows j) (l.each j b))

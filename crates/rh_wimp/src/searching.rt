@@ -2,19 +2,20 @@
 ghost use Rattle.std.specs.Prelude.{◌≡◌, ◌<◌, ◌≤◌, ◌^◌, ℕ, List, Option, length};
 ghost use Rattle.std.specs.List.{list_any};
 ghost use Rattle.rh_defs.specs.declared.sizes.TheConstants.{MOST_MESSAGES};
+ghost use Rattle.rh_defs.specs.Memory.{bytes};
 ghost use Rattle.rh_defs.specs.Messages.{Parcel};
 ghost use Rattle.rh_defs.specs.Post.{holds_such, post_is_live, post_is_message};
 ghost use Rattle.rh_module.specs.ModuleArea.{IsModule, module_heap_in};
 ghost use Rattle.rh_wimp.specs.QueueCalls.{Answers, IsQueue};
 ghost use Rattle.rh_wimp.specs.Chains.{Chain, Holds, Lies, SeatRow, RowLies, RowsLie, first_block, row_parcels};
-ghost use Rattle.rh_wimp.specs.Inner.Searches.{AreShortChains, rows_have, wants};
+ghost use Rattle.rh_wimp.specs.Inner.Searches.{AreShortChains, has_code, rows_have, wants};
 
 use crate::chain::Entry;
-use crate::layout::{LINK, MESSAGE, MY_REF};
+use crate::layout::{CODE, LINK, MESSAGE, MY_REF};
 use crate::queue::Queue;
 use crate::table::Table;
-use rh_defs::Ref;
 use rh_defs::sizes::{MAX_TASKS, MOST_MESSAGES};
+use rh_defs::{EventCode, Ref};
 use rh_module::Module;
 use rh_store::Words;
 
@@ -28,11 +29,15 @@ pub(crate) enum Wanted {
 }
 
 impl Queue {
-    /// Whether a message, queued or held, lies in the block at an offset of the module area.
+    /// Whether a message, queued or held, lies in the block at an offset of the module area. Where no event code stands
+    /// as a message has it, none is asked.
     pub fn is_message<S: Words>(&self, store: &S, module_area: Module, block: usize) -> bool
         requires { IsQueue (S.memory store.now) module_area self.now }
         ensures { Answers (S.memory store.now) module_area self.now (post_is_message block) result }
     {
+        if !has_code(store, module_area, block) {
+            return false;
+        }
         any_entry(store, module_area, &self.entries, &Wanted::At(block))
     }
 
@@ -43,6 +48,18 @@ impl Queue {
     {
         any_entry(store, module_area, &self.entries, &Wanted::WithRef(my_ref))
     }
+}
+
+/// Whether an event code stands where a message in the block at an offset of the module area has one.
+fn has_code<S: Words>(store: &S, module_area: Module, block: usize) -> bool
+    requires { IsModule (S.memory store.now) module_area }
+    ensures { result ≡ has_code block (bytes (S.memory store.now) module_area.area.0) }
+{
+    let end = store.len(module_area.area);
+    if end < block || end - block < MESSAGE {
+        return false;
+    }
+    EventCode::from_number(store.word(module_area.area, block + CODE)).is_some()
 }
 
 /// Whether a message of some tasks is the one that is looked for.
