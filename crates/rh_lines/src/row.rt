@@ -1,6 +1,6 @@
 //! A line of text while it is built.
 
-ghost use Rattle.std.specs.Prelude.{◌≡◌, ◌≤◌, ◌<◌, ◌+◌, ◌*◌, [], ◌∷◌, ◌++◌, length};
+ghost use Rattle.std.specs.Prelude.{◌≡◌, ◌≤◌, ◌<◌, ◌+◌, ◌*◌, ◌/◌, ◌%◌, [], ◌∷◌, ◌++◌, length};
 ghost use Rattle.std.specs.Fmt.{decimal};
 ghost use Rattle.hex.specs.Hex.{encode_lower};
 ghost use Rattle.rh_defs.specs.Text.{address};
@@ -82,19 +82,48 @@ impl Row {
         self.len += count;
     }
 
-    /// Adds a number in decimal.
+    /// Adds the two last digits of a number below 100.
+    #[inline(always)]
+    fn two_digits(&mut self, number: u32)
+        requires small { number < 100 }
+        requires room { length self.old + 2 ≤ ROW }
+        ensures { self.new ≡ self.old ++ (48 + number / 10) ∷ (48 + number % 10) ∷ [] }
+    {
+        self.byte(b'0' + (number / 10) as u8);
+        self.byte(b'0' + (number % 10) as u8);
+    }
+
+    /// Adds a number below 100 in decimal.
     #[tactic(auto, using(std::proofs::lemmas::Fmt::decimal_digit))]
+    #[inline(always)]
+    fn short_decimal(&mut self, number: u32)
+        requires small { number < 100 }
+        requires room { length self.old + 2 ≤ ROW }
+        ensures value { self.new ≡ self.old ++ decimal number }
+        ensures few { length self.new ≤ length self.old + 2 }
+    {
+        if number < 10 {
+            self.byte(b'0' + number as u8);
+        } else {
+            self.two_digits(number);
+        }
+    }
+
+    /// Adds a number in decimal. One of up to four digits is written with no copy.
     pub fn decimal(&mut self, number: u32)
         requires { length self.old + 11 ≤ ROW }
         ensures value { self.new ≡ self.old ++ decimal number }
         ensures few { length self.new ≤ length self.old + 11 }
     {
-        if number < 10 {
-            self.byte(b'0' + number as u8);
-            return;
+        if number < 100 {
+            self.short_decimal(number);
+        } else if number < 10_000 {
+            self.short_decimal(number / 100);
+            self.two_digits(number % 100);
+        } else {
+            let mut buffer = Buffer::new();
+            self.text(buffer.format(number).as_bytes());
         }
-        let mut buffer = Buffer::new();
-        self.text(buffer.format(number).as_bytes());
     }
 
     /// Adds an address.
