@@ -20,7 +20,7 @@ ghost use Rattle.rh_sheet.specs.SheetPieces.{piece_x as x_of_piece, pieces_text,
 
 use crate::boxes::{Extent, print_box, print_words};
 use crate::tints::{Tint, add_tint};
-use rh_defs::sizes::PAGE;
+use rh_defs::sizes::{FLEX_HEADER, PAGE, WORD};
 use rh_figure::{Kind, Piece};
 use rh_lines::{Pen, Row};
 use rh_map::add_size;
@@ -146,10 +146,15 @@ pub fn add_tip(row: &mut Row, kind: Kind, address: u32, size: u32)
     match kind {
         Kind::AnchorWords => add_at(row, b"64 anchor words, ", address),
         Kind::Descriptor => add_at(row, b"heap descriptor, ", address),
-        Kind::Claimed { size: bytes } => add_sized_at(row, b"used ", address + 4, bytes),
+        Kind::Claimed { size: bytes } => add_sized_at(row, b"used ", address + WORD as u32, bytes),
         Kind::Posted { message } => {
             let what = named(b"message ", message);
-            add_sized_at(row, what.as_slice(), address + 4, size.saturating_sub(4));
+            add_sized_at(
+                row,
+                what.as_slice(),
+                address + WORD as u32,
+                size.saturating_sub(WORD as u32),
+            );
         }
         Kind::FreeHole => add_sized_at(row, b"hole ", address, size),
         Kind::MoreSegments { count } => add_counted(row, b"", count, b" more"),
@@ -159,7 +164,7 @@ pub fn add_tip(row: &mut Row, kind: Kind, address: u32, size: u32)
             size: bytes,
         } => {
             let what = named(b"flex block ", anchor);
-            add_sized_at(row, what.as_slice(), address + 8, bytes);
+            add_sized_at(row, what.as_slice(), address + FLEX_HEADER as u32, bytes);
         }
         Kind::Unused => add_at(row, b"unused, ", address),
     }
