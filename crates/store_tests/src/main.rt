@@ -1,6 +1,6 @@
-//! Calls on the region, on both stores and on bytes that are lent as rows of data. Standard input has sections, with an
-//! empty line between them: a first line that says what the calls are made on, and a call in each other line. Each
-//! section is run over each kind of store that it names, and each call is printed with its answer.
+//! Calls on the region, on both stores, on bytes that are lent and on numbers as rows of data. Standard input has
+//! sections, with an empty line between them: a first line that says what the calls are made on, and a call in each
+//! other line. Each section is run over each kind of store that it names, and each call is printed with its answer.
 #![tactic(auto)]
 
 mod answer;
@@ -9,6 +9,7 @@ mod callers;
 mod careful;
 mod lent;
 mod limits;
+mod peaks;
 mod places;
 mod regions;
 mod row;

@@ -2,7 +2,7 @@
 
 use crate::answer::tell;
 use crate::row::Row;
-use crate::{called, lent, limits, places, regions, stores};
+use crate::{called, lent, limits, peaks, places, regions, stores};
 use rh_pages::PagedStore;
 use rh_store::{Pages, PlainStore, StoreFault};
 use std::io;
@@ -18,6 +18,7 @@ pub(crate) fn run<R: Print + AllocGlobal>(rt: &R, section: &str) -> io::Result<(
     match row.word(0).unwrap_or("") {
         "store" => over_stores(rt, rows),
         "region" => regions::rows(rt, row.size(1).unwrap_or(0), rows),
+        "numbers" => peaks::rows(rt, rows),
         "limits" => limits_of_stores(rt),
         "closing" => areas_that_close(rt),
         "callers" => callers(rt),
