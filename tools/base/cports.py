@@ -87,6 +87,11 @@ def examples(top):
     return sorted(ctests.stem(it) for it in glob.glob(f"{top}/c/examples/*.out"))
 
 
+def shims(port):
+    """The sources of the shims, as they are installed."""
+    return sorted(glob.glob(f"{port.root}/{SHIMS}/*.c"))
+
+
 def prints(port, what, name, words, **how):
     """Whether an example prints what stands beside it."""
     with open(f"{port.top}/c/examples/{name}.out", "rb") as it:
@@ -173,16 +178,33 @@ def flags_of(port):
     return told
 
 
+def flags_of_example(port, compiler, compiling):
+    """How one compiler is told to make an object of an example, or of a shim."""
+    standard = {"c": "c99", "c++": "c++11"}[COMPILERS[compiler]]
+    return [compiler, f"-std={standard}", *WARNED, *compiling, f"-I{port.root}/{SHIMS}", "-x", COMPILERS[compiler], "-c"]
+
+
+def shim_object(port, compiler, path):
+    """Where a shim is that one compiler has made an object of."""
+    return f"{port.work}/shim-{ctests.stem(path)}-{compiler}.o"
+
+
+def compile_shim(port, compiler, path, compiling):
+    """Makes an object of a shim by one compiler, once for all examples."""
+    words = [*flags_of_example(port, compiler, compiling), path, "-o", shim_object(port, compiler, path)]
+    port.ran(f"the shim {ctests.stem(path)} by {compiler}", words)
+
+
 def try_example(port, compiler, name, compiling, linking):
     """An example by one compiler, over the archive and over the shared library."""
-    language, what = COMPILERS[compiler], f"{name} by {compiler}"
-    standard = {"c": "c99", "c++": "c++11"}[language]
-    shims = [it for it in sorted(glob.glob(f"{port.root}/{SHIMS}/*.c"))]
-    sources = ["-x", language, f"c/examples/{name}.c", *shims, "-x", "none"]
-    flags = [f"-std={standard}", *WARNED, *compiling, f"-I{port.root}/{SHIMS}"]
+    what, compiled = f"{name} by {compiler}", f"{port.work}/{name}-{compiler}.o"
+    words = [*flags_of_example(port, compiler, compiling), f"c/examples/{name}.c", "-o", compiled]
+    if port.ran(what, words) is None:
+        return
+    objects = [compiled, *(shim_object(port, compiler, it) for it in shims(port))]
     for kind, words in (("static", [f"{port.root}/lib/lib{archive.NAME}.a"]), ("shared", linking)):
         made = f"{port.work}/{name}-{compiler}-{kind}"
-        if port.ran(f"{what}, {kind}", [compiler, *flags, *sources, *words, "-o", made]) is not None:
+        if port.ran(f"{what}, {kind}", [compiler, *objects, *words, "-o", made]) is not None:
             there = dict(os.environ, LD_LIBRARY_PATH=f"{port.root}/lib" if kind == "shared" else port.work)
             prints(port, f"{what}, {kind}", name, [made], env=there)
             if kind == "shared":
@@ -278,6 +300,8 @@ def run_all(port):
     compiling, linking = flags_of(port)
     there = [it for it in COMPILERS if port.has(it, f"programs by {it}")]
     with concurrent.futures.ThreadPoolExecutor(os.cpu_count()) as pool:
+        for made in [pool.submit(compile_shim, port, it, path, compiling) for it in there for path in shims(port)]:
+            made.result()
         calls = [pool.submit(try_example, port, it, name, compiling, linking)
                  for it in there for name in examples(port.top)]
         calls += [pool.submit(try_standard, port, it, standard, compiling)

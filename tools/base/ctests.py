@@ -18,13 +18,14 @@ from targets import HERE, OTHERS
 STRICT = ["-Wall", "-Wextra", "-Werror"]
 C11 = ["-std=c11", *STRICT]
 # Each way in which all tests are compiled and run. Fewer random calls are made where each costs more.
+AS_IT_IS = "as it is"
 WAYS = {
-    "as it is": ["-O2"],
+    AS_IT_IS: ["-O2"],
     "checked names": ["-O2", "-DVF_CHECKED", "-DCALLS=5000"],
     "sanitizers": ["-O1", "-g", "-fsanitize=address,undefined", "-fno-sanitize-recover=all", "-DCALLS=4000"],
 }
 # The same where another machine is played by an emulator.
-EMULATED = {"as it is": ["-O2", "-DCALLS=2000"], "checked names": ["-O2", "-DVF_CHECKED", "-DCALLS=1000"]}
+EMULATED = {AS_IT_IS: ["-O2", "-DCALLS=2000"], "checked names": ["-O2", "-DVF_CHECKED", "-DCALLS=1000"]}
 # A run that hangs is ended after so many seconds.
 LONGEST = 120
 # The test that no call takes memory, the functions that it counts, and where the calls that it makes by a list stand;
@@ -166,7 +167,7 @@ def try_examples(suite):
 
     The library for another machine is told to pkg-config where it is installed alone.
     """
-    flags = []
+    flags, objects = [], [plain_object(suite, it, AS_IT_IS) for it in shims(suite)]
     if suite.target is HERE and shutil.which("pkg-config"):
         where = dict(os.environ, PKG_CONFIG_PATH=suite.folder)
         told = suite.ran("pkg-config", ["pkg-config", "--cflags", "--libs", archive.NAME], env=where)
@@ -175,8 +176,7 @@ def try_examples(suite):
     for said in sorted(glob.glob(f"{suite.top}/c/examples/*.out")):
         name = os.path.basename(said).removesuffix(".out")
         made = f"{suite.work}/{name}"
-        sources = [f"c/examples/{name}.c", *shims(suite)]
-        if suite.compiled(f"the example {name}", sources, [*C11, "-O2", *flags[:1]], made):
+        if suite.compiled(f"the example {name}", [f"c/examples/{name}.c", *objects], [*C11, "-O2", *flags[:1]], made):
             with open(said, "rb") as it:
                 suite.is_true(f"{name} prints what stands beside it", suite.runs(name, made) == it.read())
 
@@ -224,15 +224,16 @@ def try_shim(suite):
 
 
 def run_all(suite, others):
-    """All tests in C and others, as many side by side as there are processors; gives how many tests in C there are."""
+    """All tests in C behind others, which have several commands each, as many side by side as there are processors; gives
+    how many tests in C there are."""
     tests = sorted(glob.glob("c/tests/*.c", root_dir=suite.top))
     # The way that costs most goes first.
     ways = list(reversed(suite.ways))
     with concurrent.futures.ThreadPoolExecutor(os.cpu_count()) as pool:
         for made in [pool.submit(compile_plain, suite, path, way) for way in ways for path in plain(suite)]:
             made.result()
-        calls = [pool.submit(try_test, suite, path, way) for way in ways for path in tests]
-        calls += [pool.submit(it, suite) for it in others]
+        calls = [pool.submit(it, suite) for it in others]
+        calls += [pool.submit(try_test, suite, path, way) for way in ways for path in tests]
     for it in calls:
         it.result()
     return len(tests)

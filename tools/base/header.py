@@ -1,5 +1,6 @@
 """The header for programs in C beside its sources: where the two differ, and a test that this is seen."""
 
+import functools
 import glob
 import itertools
 import re
@@ -35,6 +36,8 @@ STRUCT = re.compile(r"^#\[repr\(C\)\]\n(?:#[^\n]*\n)*pub struct (\w+) \{([^}]*)\
 FIELD = re.compile(r"^ +(?:pub )?(\w+): ([^{\n]+),$", re.MULTILINE)
 STRUCT_IN_C = re.compile(r"^(struct \w+) \{([^}]*)\};", re.MULTILINE)
 COMMENT = re.compile(r"/\*.*?\*/", re.DOTALL)
+# How a prototype begins.
+CALL = re.compile(r"^\w+ (\w+)\(", re.MULTILINE)
 PROTOTYPE = re.compile(r"^(\w+) (vf_\w+)\(([^)]*)\);", re.MULTILINE)
 NUMBER = re.compile(r"^    (VF_\w+) = (\d+)", re.MULTILINE)
 # A status with what stands beside it, and with its text.
@@ -80,10 +83,16 @@ def sources(top):
     return texts
 
 
+@functools.lru_cache(maxsize=None)
+def found_in(pattern, text):
+    """What a pattern finds in the text of a source, which is asked for again with each slip of the header."""
+    return tuple(pattern.findall(text))
+
+
 def prototypes(texts):
     """What the sources export: for each name the prototype in C, and the call of OS_Heap that it is, if it is one."""
     found = {}
-    for told, name, parameters, result in (it for text in texts.values() for it in EXPORT.findall(text)):
+    for told, name, parameters, result in (it for text in texts.values() for it in found_in(EXPORT, text)):
         pairs = [it.split(":", 1) for it in parameters.split(",") if it.strip()]
         words = [word for name_, declared in pairs for word in in_c(name_.strip(), declared.strip())]
         found[name] = (f"{TYPES[result]} {name}({', '.join(words) or 'void'});", CALL_OF_SYSTEM.findall(told))
@@ -95,9 +104,18 @@ def exports(top):
     return list(prototypes(sources(top)))
 
 
+@functools.lru_cache(maxsize=1)
+def comments(header):
+    """The comment that stands last before the prototype of each call."""
+    found = {}
+    for it in CALL.finditer(header):
+        found.setdefault(it[1], header[header.rfind("/*", 0, it.start()) + 2 : it.start()])
+    return found
+
+
 def comment_above(header, name):
-    """The comment that stands last before a call's prototype."""
-    return re.split(rf"^\w+ {name}\(", header, maxsplit=1, flags=re.MULTILINE)[0].rpartition("/*")[2]
+    """The comment that stands last before a call's prototype, or in a header without it."""
+    return comments(header).get(name, header.rpartition("/*")[2])
 
 
 def faults_of_prototypes(header, exported):
@@ -129,7 +147,7 @@ def fields_in_c(fields, structs):
 
 def faults_of_structs(header, texts):
     """Which structs that a call takes have other fields in the header."""
-    structs = {name: fields for text in texts.values() for name, fields in STRUCT.findall(text)}
+    structs = {name: fields for text in texts.values() for name, fields in found_in(STRUCT, text)}
     there = {TYPES[name]: list(fields_in_c(fields, structs)) for name, fields in structs.items() if name in TYPES}
     here = {name: [" ".join(it.split()) for it in fields.split(";") if it.strip()]
             for name, fields in STRUCT_IN_C.findall(COMMENT.sub("", header))}
@@ -140,7 +158,7 @@ def faults_of_structs(header, texts):
 
 def faults_of_statuses(header, texts):
     """Which numbers differ, also among the sources. A null pointer is never seen by the sources."""
-    given = {(f"VF_{name}", int(number)) for text in texts.values() for name, number in STATUS.findall(text)}
+    given = {(f"VF_{name}", int(number)) for text in texts.values() for name, number in found_in(STATUS, text)}
     there = dict(given)
     for name, number in sorted(given - there.items()):
         yield f"{name}: the sources have both {number} and {there[name]}"

@@ -12,7 +12,10 @@ import outcome
 
 NAME = "vervainfile"
 # How many browsers share the tests of the page, and how many the sheets of the examples.
-SHARES, SHEET_SHARES = 3, 2
+SHARES, SHEET_SHARES = 4, 2
+# So many parts more than there are processors run side by side: all browsers begin at once on four, and now and then one
+# waits for a frame.
+MORE = 2
 # A part that hangs is ended after so many seconds.
 LONGEST = 1800
 LEFT_OUT = "left out"
@@ -50,7 +53,8 @@ class Part:
 
 
 def parts_of(top, build, is_dist):
-    """All parts, those that take longest first."""
+    """All parts: first those that do one thing after the other, the longest of them before the others, and then those that
+    keep all processors at work by themselves, so that none is idle at the end."""
     tests = f"{top}/tools/tests/test-"
     pages = [Part(f"page-{it}", [f"{top}/bin/web", "test", build.page, "--program", build.program, "--share",
                                  f"{it}/{SHARES}"], True) for it in range(1, SHARES + 1)]
@@ -59,20 +63,20 @@ def parts_of(top, build, is_dist):
     return [
         *sheets,
         *pages,
-        Part("library", [f"{tests}library", build.library]),
-        Part("machines", [f"{tests}machines", build.library], True),
-        Part("ports", [f"{tests}ports", build.library, build.program]),
-        Part("memory", [f"{tests}program", build.program, "memory"]),
-        Part("lessons", [f"{top}/bin/look", f"{top}/examples/lessons"]),
         Part("rows", [f"{tests}rows", build.program]),
+        Part("pictures", [f"{tests}program", build.program, "maps", "drawings", "figures", "lenses", "lens_words"]),
+        Part("lessons", [f"{top}/bin/look", f"{top}/examples/lessons"]),
         Part("header", [sys.executable, f"{top}/tools/base/header.py", top]),
         Part("examples", [f"{top}/examples/check", build.program]),
-        Part("pictures", [f"{tests}program", build.program, "maps", "drawings", "figures", "lenses", "lens_words"]),
         Part("words", [f"{tests}program", build.program, "words", "completions", "calls", "files", "images",
                        "scripts", "outputs"]),
         Part("documents", [f"{tests}docs", build.program]),
         Part("command", [f"{tests}command"]),
         *([Part("sums", [f"{tests}sums"])] if is_dist else []),
+        Part("machines", [f"{tests}machines", build.library], True),
+        Part("library", [f"{tests}library", build.library]),
+        Part("ports", [f"{tests}ports", build.library, build.program]),
+        Part("memory", [f"{tests}program", build.program, "memory"]),
         Part("pace", [f"{top}/bin/web", "test", build.page, "--program", build.program, "long_scripts",
                       "quick_steps"], True, True),
     ]
@@ -142,12 +146,12 @@ def missing_of(results):
 def run(build, parts, is_whole):
     """Runs the parts, tells each as it ends, and gives the exit status.
 
-    As many run side by side as there are processors, and behind them those that are timed, one by one.
+    Some more run side by side than there are processors, and behind them those that are timed, one by one.
     """
     start, results = time.monotonic(), []
     for timed in (False, True):
         wanted = [it for it in parts if it.is_timed == timed]
-        with concurrent.futures.ThreadPoolExecutor(1 if timed else os.cpu_count()) as pool:
+        with concurrent.futures.ThreadPoolExecutor(1 if timed else os.cpu_count() + MORE) as pool:
             for it in concurrent.futures.as_completed([pool.submit(result_of, part, is_whole) for part in wanted]):
                 results.append(it.result())
                 print(results[-1].line(), end="", flush=True)

@@ -14,11 +14,12 @@ import make
 WINDOWS = ((1280, 720), (1366, 768), (1440, 900), (1920, 1080), (1024, 768), (820, 1180), (390, 844), (360, 640))
 # What has to be in sight at each step, and how much of it at least.
 IN_SIGHT = {"#step": 20, "#back": 20, "#slider": 10, "#shown": 14, "#frame": 110}
-# How much of each element is in the window; and how far the page is scrolled, and could be.
+# How much of each element is in the window; how far the page is scrolled, and could be; and which step is shown.
 SEEN_HEIGHTS = """((names) => [names.map((name) => {
   const { top, bottom } = document.querySelector(name).getBoundingClientRect();
   return Math.min(bottom, innerHeight) - Math.max(top, 0);
-}), scrollY, document.documentElement.scrollHeight - innerHeight])"""
+}), scrollY, document.documentElement.scrollHeight - innerHeight,
+  document.querySelector('#shown').textContent.trim().slice(0, 20)])"""
 # How many pixels a unit of a lens has, in the smallest one.
 LEAST_OF_LENSES = """Math.min(...[...document.querySelector('#picture').shadowRoot.querySelectorAll('.memory svg')]
   .filter((it) => it.querySelector('[data-key]'))
@@ -61,10 +62,10 @@ def walk_in_sight(page, name, size):
     page.load(name)
     for _ in range(min(30, len(make.examples_by_name()[name]["text"].splitlines()))):
         page.click("step")
-        found, scrolled, over = page.value(f"{SEEN_HEIGHTS}({json.dumps(list(IN_SIGHT))})")
+        found, scrolled, over, shown = page.value(f"{SEEN_HEIGHTS}({json.dumps(list(IN_SIGHT))})")
         short = {it: seen for (it, least), seen in zip(IN_SIGHT.items(), found) if seen < least}
         same([short, scrolled, max(0, over)], [{}, 0, 0],
-             f"what isn't in sight, and what is scrolled, in {name} at {page.text('shown')[:20]}, {size}")
+             f"what isn't in sight, and what is scrolled, in {name} at {shown}, {size}")
 
 
 def check_windows(bench):
@@ -474,7 +475,7 @@ def check_flight(bench):
 
 # Of what the last command has changed of slots and the module area, how many shapes are seen whole; how many there are;
 # and of the cards from which and to which its bytes went those that are seen too little: of the first one the lowest line
-# is enough.
+# is enough. And which step is shown.
 CHANGED_IN_SIGHT = """((source, target) => {
   const figure = document.querySelector('#picture').shadowRoot.querySelector('.memory');
   const { top, bottom } = document.querySelector('#frame').getBoundingClientRect();
@@ -485,7 +486,8 @@ CHANGED_IN_SIGHT = """((source, target) => {
     `${parentNode.querySelector('title').textContent}, ${nextElementSibling.textContent}`;
   const faint = [...figure.querySelectorAll('.card')].map((it) => [nameOf(it), it]).filter(([name, it]) =>
     name === source && !isSeen(it, 17) || name === target && !isSeen(it, 1000));
-  return [fresh.filter((it) => isSeen(it, 1000)).length, fresh.length, faint.map(([name]) => name)];
+  return [fresh.filter((it) => isSeen(it, 1000)).length, fresh.length, faint.map(([name]) => name),
+    document.querySelector('#shown').textContent.trim().slice(0, 20)];
 })(...%s)"""
 
 
@@ -501,7 +503,7 @@ def check_changed_in_sight(bench):
                     page.click("step")
                     line = int(page.value("document.querySelector('#shown b').textContent"))
                     way = WAYS.get(line, ())[1:] if name == "small-buffer" else ()
-                    seen, count, unseen = page.value(CHANGED_IN_SIGHT % json.dumps(way))
+                    seen, count, unseen, _ = page.value(CHANGED_IN_SIGHT % json.dumps(way))
                     holds(seen or not count, f"nothing of {count} changes at line {line} of {name} is seen at {width}")
                     same(unseen, [], f"which cards at line {line} of {name} aren't seen at {width}")
         page.tab.call("Emulation.setEmulatedMedia", features=[])
@@ -519,10 +521,10 @@ def check_changed_in_lens(bench):
                 changes = 0
                 while "step" not in page.disabled():
                     page.click("step")
-                    seen, count, _ = page.value(CHANGED_IN_SIGHT % "[]")
+                    seen, count, _, shown = page.value(CHANGED_IN_SIGHT % "[]")
                     changes += count > 0
-                    holds(seen or not count, f"nothing of {count} changes at {page.text('shown')[:20]} of {name} is seen "
-                          f"at {width} through a lens")
+                    holds(seen or not count, f"nothing of {count} changes at {shown} of {name} is seen at {width} "
+                          "through a lens")
                 holds(changes > 4, f"only {changes} steps of {name} change something in a lens")
         page.tab.call("Emulation.setEmulatedMedia", features=[])
 

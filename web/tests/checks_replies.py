@@ -50,7 +50,7 @@ def check_replies(bench):
             same(page.value("lastText"), wanted, f"the text of {path.name}")
             rows = page.rows()
             if len(rows) < 400 and max(map(len, wanted.split("\n"))) < 4000:
-                same(page.replies(), wanted, f"what is shown of {path.name}")
+                same(page.replies(rows), wanted, f"what is shown of {path.name}")
             count += 1
     holds(count > 80, f"only {count} scripts ran")
 

@@ -5,12 +5,20 @@
   const UNPAINTED = ["text", "use", "g", "svg"];
   const canvas = document.createElement("canvas").getContext("2d", { willReadFrequently: true });
 
-  // Red, green, blue and how opaque, each up to 255.
-  function parts(colour) {
+  // The parts of each colour that was painted before: painting is dear.
+  const painted = new Map();
+
+  // Red, green, blue and how opaque, each up to 255, as a canvas paints the colour.
+  function paint(colour) {
     canvas.clearRect(0, 0, 1, 1);
     canvas.fillStyle = colour;
     canvas.fillRect(0, 0, 1, 1);
     return [...canvas.getImageData(0, 0, 1, 1).data];
+  }
+
+  function parts(colour) {
+    if (!painted.has(colour)) painted.set(colour, paint(colour));
+    return painted.get(colour);
   }
 
   // The luminance of a part of a colour, and of a colour, as the Web Content Accessibility Guidelines define them.

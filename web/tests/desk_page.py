@@ -62,9 +62,9 @@ class DeskPage:
     def rows(self):
         return self.value(ROWS)
 
-    def replies(self):
-        """The text of the replies that are shown."""
-        return "".join(f"{row['reply']}\n" for row in self.rows() if row["reply"])
+    def replies(self, rows=None):
+        """The text of the replies that are shown, or of those of rows."""
+        return "".join(f"{row['reply']}\n" for row in rows or self.rows() if row["reply"])
 
     def text(self, name):
         """The text of an element by its id."""

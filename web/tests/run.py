@@ -28,6 +28,13 @@ CHECKS = (checks_replies, checks_use, checks_lines, checks_files, checks_kept, c
 MOST_WRONG = 5
 # Tests of how long something takes, which no share has: other work beside them would count.
 TIMED = ("long_scripts", "quick_steps")
+# How many seconds of a processor a test takes that takes many, where 20 million additions in python3 take 0.98; and what
+# one of the others takes. By these the shares take about as long.
+DEAR = {"windows": 26, "lens_in_windows": 9, "replies": 5, "contrast": 3, "changed_in_sight": 3, "words_of_figures": 2,
+        "contrast_of_lens": 2, "sheets_alone": 2, "changed_in_lens": 2, "flight": 2, "history_kept": 1.2,
+        "loaded_too_long": 1.2, "examples": 1.2, "names_of_chart": 1.2, "dark_picture": 1.2, "changed_blocks": 1,
+        "drawn_files": 1, "lessons": 1, "pictures": 1, "left_page": 1, "as_program": 1, "loaded_with_link": 1}
+USUAL = 0.4
 
 
 def checks():
@@ -50,11 +57,24 @@ def tried(bench, name, check):
     return True
 
 
+def seconds_of(them):
+    """How long tests take, about."""
+    return sum(DEAR.get(name, USUAL) for name, _ in them)
+
+
+def dealt(them, shares):
+    """Tests in so many shares. The dearest first, each goes to the one that takes the shortest time so far."""
+    found = [[] for _ in range(shares)]
+    for it in sorted(them, key=lambda it: seconds_of([it]), reverse=True):
+        min(found, key=seconds_of).append(it)
+    return found
+
+
 def chosen(wanted, share):
     """The tests that are wanted, or all; of these each that falls to a share, as `2/3`, where one is given."""
     number, shares = map(int, share.split("/"))
     them = [it for it in checks() if (it[0] in wanted if wanted else shares == 1 or it[0] not in TIMED)]
-    return them[number - 1 :: shares]
+    return them if shares == 1 else dealt(them, shares)[number - 1]
 
 
 def passed_of(bench, them):

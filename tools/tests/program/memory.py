@@ -1,6 +1,7 @@
 """Less memory than the machine has: each example within it, and long scripts within that of short ones."""
 
 import concurrent.futures
+import os
 import pathlib
 
 from examples import EXAMPLES, words_of
@@ -13,9 +14,8 @@ SMALL_STACK = 128 * KIB
 SHORT = b"task a 100\ntask b 10\nalloc a 0 4\nclaim a 20\nsave a 0 b leaf\npoll b\nareas\n"
 
 
-def is_refused(suite, words, output, status, memory):
-    """Runs within so much memory; gives whether the program was refused some, or None where it couldn't be loaded."""
-    ended = suite.run(words, limit=memory)
+def is_refused(suite, words, output, status, memory, ended):
+    """Whether the program was refused some of so much memory, as it ended; or None where it couldn't be loaded."""
     if ended[2] not in (0, 1, 3):
         return None
     refused = ended == (b"", NO_MEMORY, 3)
@@ -35,12 +35,20 @@ def example_runs():
     return runs
 
 
+def within_each(suite, runs, limits):
+    """How the program ends by the words of each run within each of so many bytes of memory."""
+    with concurrent.futures.ThreadPoolExecutor(os.cpu_count()) as pool:
+        yield from pool.map(lambda words: suite.run_within(words, limits), runs)
+
+
 def test_refused_memory(suite):
     """Where the machine lends less memory, each example and a check end well, or with want of memory and nothing else."""
     image, sums, _ = heap_of([16] * 20_000, set())
     pathlib.Path("many.heap").write_bytes(image)
-    for wanted in [*example_runs(), (["check", "many.heap"], sums, 0)]:
-        refused = [it for it in map(lambda it: is_refused(suite, *wanted, it), MEMORY) if it is not None]
+    runs = [*example_runs(), (["check", "many.heap"], sums, 0)]
+    for wanted, ended in zip(runs, within_each(suite, [words for words, _, _ in runs], MEMORY)):
+        found = [is_refused(suite, *wanted, *it) for it in zip(MEMORY, ended)]
+        refused = [it for it in found if it is not None]
         suite.is_true(f"{' '.join(wanted[0])}: refused memory, then granted", refused[:1] == [True] and not refused[-1])
 
 
@@ -56,10 +64,9 @@ def sized_runs():
 
 def test_each_memory(suite):
     """In small steps from the least memory in which the program is loaded: the whole text, or want of memory."""
-    for words in sized_runs():
+    runs = sized_runs()
+    for words, ended in zip(runs, within_each(suite, runs, SMALL_STEPS)):
         whole = suite.run(words)
-        with concurrent.futures.ThreadPoolExecutor() as pool:
-            ended = list(pool.map(lambda it, words=words: suite.run(words, limit=it), SMALL_STEPS))
         loaded = [it for i, it in enumerate(ended) if any(before[2] in (0, 3) for before in ended[: i + 1])]
         suite.is_true(f"{' '.join(words)}: all or no memory", set(loaded) == {(b"", NO_MEMORY, 3), whole})
         suite.is_true(f"{' '.join(words)}: all of its text", whole[0] and whole[1:] == (b"", int(words[0] == "explain")))

@@ -1,9 +1,11 @@
 """A built program that is run, and the count of what it did otherwise than it should."""
 
 import os
+import pathlib
 import resource
 import signal
 import subprocess
+import tempfile
 
 # The words of the program that take a script.
 SCRIPT_VERBS = ("run", "explain", "map", "draw")
@@ -14,6 +16,12 @@ MEMORY = range(5 << 19, 5 << 20, 1 << 16)
 # The same in small steps, up to more than enough for 1,024 pages.
 SMALL_STEPS = range(5 << 19, 12 << 20, 1 << 14)
 KIB = 1024
+# Runs a program within so many KiB of memory each time, and prints how each run ended. What it prints and tells goes into
+# files of a folder: a shell and two pipes for each run would cost more than the program.
+WITHIN_EACH = """for most in $MOST; do
+    (ulimit -v "$most" && exec "$0" "$@") >"$ROOM/$most.printed" 2>"$ROOM/$most.told"
+    echo $?
+done"""
 # The seconds after which a run that hangs is ended.
 SECONDS = 120
 
@@ -46,6 +54,18 @@ class Suite:
         changed = before if user or longest is not None else None
         given = subprocess.run(words, **streams, timeout=SECONDS, preexec_fn=changed)
         return given.stdout or b"", given.stderr or b"", given.returncode
+
+    def run_within(self, words, limits):
+        """What the program printed, told, and ended with, within each of so many bytes of memory. An end by a signal has
+        128 and its number."""
+        sizes = [it // KIB for it in limits]
+        with tempfile.TemporaryDirectory() as room:
+            around = dict(os.environ, ROOM=room, MOST=" ".join(map(str, sizes)))
+            ran = subprocess.run(["sh", "-c", WITHIN_EACH, self.program, *words], stdin=subprocess.DEVNULL, env=around,
+                                 stdout=subprocess.PIPE, stderr=subprocess.DEVNULL, timeout=SECONDS + len(sizes), check=True)
+            statuses = list(map(int, ran.stdout.split()))
+            texts = [[pathlib.Path(room, f"{it}.{of}").read_bytes() for of in ("printed", "told")] for it in sizes]
+        return [(*text, status) for text, status in zip(texts, statuses)]
 
     def is_true(self, what, holds):
         """Counts a test, and tells it where it fails."""
