@@ -1,15 +1,16 @@
 /*
  * desk_memory.c: a desk that takes its memory from functions of this program. Each request is refused in turn: the call
- * answers so, and the files that were added stay. No call asks for memory once the desk is open, done or refused, and
- * all is given back.
+ * answers so, and the files that were added stay. A desk does without its last four requests alone, in which it asks for
+ * longer maps than it needs. No call asks for memory once the desk is open, done or refused, and all is given back.
  */
 #include "expect.h"
 
 #include <stdlib.h>
 
-enum { MOST_REQUESTS = 300, LINES = 20000, PAGES = 32 };
+enum { MOST_REQUESTS = 300, LINES = 20000, PAGES = 32, SPARED = 4 };
 
 static long requests, live, refused_request = -1;
+static bool later_too;
 static size_t asked;
 static const uint8_t lent[4 * 4096];
 
@@ -22,7 +23,11 @@ struct granted rattle_alloc(size_t size, size_t align);
 struct granted rattle_realloc(void *at, size_t old_size, size_t size, size_t align);
 void rattle_dealloc(void *at);
 
-static bool is_refused(void) { return requests++ == refused_request; }
+static bool is_refused(void)
+{
+    long request = requests++;
+    return request == refused_request || (later_too && refused_request >= 0 && request > refused_request);
+}
 
 static struct granted granted(void *at)
 {
@@ -73,6 +78,44 @@ static size_t length;
         refused_request = -1;                                                          \
         EXPECT(status == VF_OK);                                                       \
     } while (0)
+
+static void add_files(void)
+{
+    DOES_AT_LAST(vf_desk_file(&desk, VF_TEXT("notes"), (const uint8_t *)"notes that are handed over", 26));
+    DOES_AT_LAST(vf_desk_file(&desk, VF_TEXT("more"), (const uint8_t *)"more", 4));
+    asked = 0;
+    DOES_AT_LAST(vf_desk_file_lent(&desk, VF_TEXT("lent"), lent, sizeof lent));
+    EXPECT(asked < sizeof lent / 4);
+}
+
+/* Opens the desk with one request refused, and all later ones too if so wanted. Whether the request was made. */
+static bool opened_without(long request, uint32_t pages, long *spared)
+{
+    long held = live;
+    struct vf_desk old = desk;
+    refused_request = request;
+    requests = 0;
+    uint32_t status = vf_desk_open(&desk, pages, 1, 1);
+    refused_request = -1;
+    bool refused = requests > request;
+    EXPECT(status == VF_OK || (refused && status == VF_NO_MEMORY));
+    EXPECT(status == VF_OK || (live == held && old.live == desk.live && (later_too || requests == request + 1)));
+    *spared += refused && status == VF_OK;
+    return refused;
+}
+
+/* Opens the desk at last, after each of its requests was refused. It is opened without the last four as well. */
+static void open_at_last(uint32_t pages, bool with_files)
+{
+    long request = 0, spared = 0;
+    while (opened_without(request, pages, &spared) && request < MOST_REQUESTS) {
+        EXPECT(!desk.live || (vf_desk_close(&desk) == VF_OK && live == 0));
+        if (with_files && live == 0)
+            add_files();
+        request++;
+    }
+    EXPECT(desk.live && spared == (later_too ? 0 : SPARED));
+}
 
 static void say(const char *line)
 {
@@ -210,12 +253,8 @@ static void questions(void)
 
 int main(void)
 {
-    DOES_AT_LAST(vf_desk_file(&desk, VF_TEXT("notes"), (const uint8_t *)"notes that are handed over", 26));
-    DOES_AT_LAST(vf_desk_file(&desk, VF_TEXT("more"), (const uint8_t *)"more", 4));
-    asked = 0;
-    DOES_AT_LAST(vf_desk_file_lent(&desk, VF_TEXT("lent"), lent, sizeof lent));
-    EXPECT(asked < sizeof lent / 4);
-    DOES_AT_LAST(vf_desk_open(&desk, PAGES, 1, 1));
+    add_files();
+    open_at_last(PAGES, true);
     long held = live;
     requests = 0;
     calls_on_memory();
@@ -228,7 +267,8 @@ int main(void)
     EXPECT(vf_desk_load(&desk, VF_TEXT("a"), 9, VF_TEXT("more"), &number) == VF_OK);
     EXPECT(vf_desk_close(&desk) == VF_OK);
     EXPECT(requests == 0 && live == 0);
-    DOES_AT_LAST(vf_desk_open(&desk, 8, 1, 1));
+    later_too = true;
+    open_at_last(8, false);
     EXPECT(vf_desk_close(&desk) == VF_OK && live == 0);
     return ended("desk_memory");
 }
