@@ -650,7 +650,7 @@ uint32_t vf_desk_open(struct vf_desk *desk, uint32_t pages, uint32_t first_handl
 
 /* How many bytes a desk of so many pages takes at most, each request rounded up to 16 bytes, if no file was added: a
  * bound for an arena of your own (c/examples/arena.h). */
-#define VF_DESK_ROOM(pages) ((size_t)(pages) * 4857 + 43008)
+#define VF_DESK_ROOM(pages) ((size_t)(pages) * 4980 + 43008)
 
 /* Closes the desk, and gives back all memory that it took. The struct is all zeros then, and may be opened again. A
  * desk that is closed already stays so. */
