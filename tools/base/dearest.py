@@ -28,7 +28,7 @@ def rows_of(crate, seconds):
 
 
 def _size(crate, functions):
-    """How many lines a function has from its head to its end, and how many bytes its answers; nothing is derived."""
+    """How many lines the one function has from its head to its end, and how many bytes its answers."""
     if len(functions) != 1:
         return "derived, or of a name that others have"
     it = functions[0]
