@@ -22,7 +22,7 @@ IsEnough words s = (n : ℕ) → n ≤ LINE_BYTES * (words / 2) → HasRows s.li
 abbrev pub IsLaid : Map → Type 0
 IsLaid s = HasRows s.lines.items s.split 0
 
--- so it stands, and isn't said to be up to date
+-- a map that is laid like that, and isn't said to be up to date
 abbrev pub IsStale : Map → Type 0
 IsStale s = (s.known ≡ false) × IsLaid s
 

@@ -3,6 +3,7 @@ use Rattle.std.specs.Prelude.{ℕ, ◌≤◌, ◌<◌, List, length}
 use Rattle.std.specs.List.{AllByRecursion}
 use Rattle.rh_defs.specs.Slot.{anchor_count}
 use Rattle.rh_defs.specs.declared.sizes.TheConstants.{LONGEST_NAME, MAX_PAGES}
+use Rattle.rh_lens.specs.declared.sizes.TheConstants.{MOST_PIECES}
 use Rattle.rh_elements.specs.Tints.{tint_class}
 use Rattle.rh_figure.specs.declared.piece.Piece.{Piece}
 use Rattle.rh_sheet.specs.Owners.{area_class}
@@ -49,12 +50,12 @@ pub record CanBeDrawn (has_piece : Piece → Type 0) (v : SlotView) : Type 0 whe
   pub strip : CanBeStripped v.pages.now v.pieces.now
   pub heap : AreTellable has_piece v.heap.now
   pub flex : AreTellable has_piece v.flex.now
-  pub few_heap : length v.heap.now ≤ 1000
-  pub few_flex : length v.flex.now ≤ 1000
+  pub few_heap : length v.heap.now ≤ MOST_PIECES
+  pub few_flex : length v.flex.now ≤ MOST_PIECES
   pub anchors : length v.anchors.now ≤ anchor_count
 
 -- a module area of which a lens can be drawn
 pub record ModuleCanBeDrawn (has_piece : Piece → Type 0) (v : ModuleView) : Type 0 where
   pub strip : CanBeStripped v.pages.now v.pieces.now
   pub parts : AreTellable has_piece v.pieces.now
-  pub few : length v.pieces.now ≤ 1000
+  pub few : length v.pieces.now ≤ MOST_PIECES

@@ -14,7 +14,7 @@ ghost use Rattle.rh_lens.specs.LensSpots.{spots};
 ghost use Rattle.rh_lens.specs.PartWords.{Choices, fitted_words};
 ghost use Rattle.rh_lens.specs.PlacedSpots.{AreTellable, seen_items, part_spot};
 ghost use Rattle.rh_lens.specs.ToldInside.{lines_of};
-ghost use Rattle.rh_lens.specs.declared.sizes.TheConstants.{ANCHOR_WIDTH, ARROWS, MOST_SCALE, MOST_WIDTH, PART};
+ghost use Rattle.rh_lens.specs.declared.sizes.TheConstants.{ANCHOR_WIDTH, ARROWS, MOST_PIECES, MOST_SCALE, MOST_WIDTH, PART};
 ghost use Rattle.rh_lines.specs.declared.row.TheConstants.{ROW};
 
 use crate::bands::spot_of_block;
@@ -263,7 +263,7 @@ fn print_arrow<P: Pen>(
     requires top { top < 2 ^ 26 }
     requires foot { foot < 2 ^ 26 }
     requires i { i ≤ anchor_count }
-    requires spot { (spot.x ≤ MOST_WIDTH) × (spot.row ≤ 1000) }
+    requires spot { (spot.x ≤ MOST_WIDTH) × (spot.row ≤ MOST_PIECES) }
     ensures { (j : Item) → P.offered pen.new ≡ P.offered pen.old
         ++ arrow_to class.now top foot count i (Some (part_spot j spot)) }
 {
@@ -294,7 +294,7 @@ pub fn print_arrows<C: Contents, P: Pen>(
     requires top { top < 2 ^ 26 }
     requires foot { band.now.foot < 2 ^ 26 }
     requires pieces { AreTellable (C.has_piece contents.now) pieces.now }
-    requires few { length pieces.now ≤ 1000 }
+    requires few { length pieces.now ≤ MOST_PIECES }
     requires anchors { length anchors.now ≤ anchor_count }
     ensures { P.offered pen.new ≡ P.offered pen.old ++ arrows_text top band.now.foot (length anchors.now) anchors.now
         (spots band.now.room band.now.scale (seen_items (C.item contents.now) pieces.now)) }
@@ -330,7 +330,7 @@ fn print_anchor_arrow<C: Contents, P: Pen>(
     requires top { top < 2 ^ 26 }
     requires foot { band.now.foot < 2 ^ 26 }
     requires pieces { AreTellable (C.has_piece contents.now) pieces.now }
-    requires few { length pieces.now ≤ 1000 }
+    requires few { length pieces.now ≤ MOST_PIECES }
     requires i { i ≤ anchor_count }
     ensures { P.offered pen.new ≡ P.offered pen.old ++ anchor_arrow top band.now.foot count
         (spots band.now.room band.now.scale (seen_items (C.item contents.now) pieces.now)) (i, anchor.now) }

@@ -10,7 +10,7 @@ ghost use Rattle.rh_lens.specs.LensParts.{parts_text, sentence_of, sentences_of}
 ghost use Rattle.rh_lens.specs.LensSpots.{rows_behind, rows_of, spots};
 ghost use Rattle.rh_lens.specs.PlacedSpots.{AreTellable, IsBand, IsTellable, seen_items, part_spot};
 ghost use Rattle.rh_lens.specs.Inner.Flows.{IsFlow, IsNextFlow, band_rest, flow_spots, sentences_left};
-ghost use Rattle.rh_lens.specs.declared.sizes.TheConstants.{MOST_SCALE, MOST_WIDTH};
+ghost use Rattle.rh_lens.specs.declared.sizes.TheConstants.{MOST_PIECES, MOST_SCALE, MOST_WIDTH};
 ghost use Rattle.rh_sheet.specs.Markup.{escape};
 
 use crate::contents::{Contents, Inside};
@@ -25,9 +25,9 @@ pub fn count_rows<C: Contents>(contents: &C, pieces: &[Piece], room: u32, scale:
     requires room { room ≤ MOST_WIDTH }
     requires scale { scale ≤ MOST_SCALE }
     requires pieces { AreTellable (C.has_piece contents.now) pieces.now }
-    requires few { length pieces.now ≤ 1000 }
+    requires few { length pieces.now ≤ MOST_PIECES }
     ensures value { result ≡ rows_of (spots room scale (seen_items (C.item contents.now) pieces.now)) }
-    ensures few { result ≤ 1001 }
+    ensures few { result ≤ MOST_PIECES + 1 }
 {
     let mut inside = Inside::new();
     let mut flow = Flow::new(room, scale);
@@ -65,7 +65,7 @@ fn rows_with<C: Contents>(
 pub fn print_band<C: Contents, P: Pen>(contents: &C, pieces: &[Piece], band: &Band, pen: &mut P)
     requires band { IsBand band.now }
     requires pieces { AreTellable (C.has_piece contents.now) pieces.now }
-    requires few { length pieces.now ≤ 1000 }
+    requires few { length pieces.now ≤ MOST_PIECES }
     ensures { P.offered pen.new ≡ P.offered pen.old
         ++ parts_text band.now.start (tint_class band.now.tint) band.now.room band.now.scale band.now.left band.now.foot
         (spots band.now.room band.now.scale (seen_items (C.item contents.now) pieces.now)) }
@@ -116,12 +116,12 @@ pub fn spot_of_block<C: Contents>(
     requires room { room ≤ MOST_WIDTH }
     requires scale { scale ≤ MOST_SCALE }
     requires pieces { AreTellable (C.has_piece contents.now) pieces.now }
-    requires few { length pieces.now ≤ 1000 }
+    requires few { length pieces.now ≤ MOST_PIECES }
     ensures some { IfSome result (λ s. (i : Item) × (spot_of_anchor anchor
         (spots room scale (seen_items (C.item contents.now) pieces.now)) ≡ Some (part_spot i s))) }
     ensures none { IfNone result (spot_of_anchor anchor
         (spots room scale (seen_items (C.item contents.now) pieces.now)) ≡ None) }
-    ensures few { IfSome result (λ s. (s.x ≤ MOST_WIDTH) × (s.row ≤ 1000)) }
+    ensures few { IfSome result (λ s. (s.x ≤ MOST_WIDTH) × (s.row ≤ MOST_PIECES)) }
 {
     let mut inside = Inside::new();
     let mut flow = Flow::new(room, scale);

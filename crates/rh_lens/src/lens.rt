@@ -1,6 +1,6 @@
 //! The lens of a slot, and of the module area, as a figure.
 
-ghost use Rattle.std.specs.Prelude.{◌≡◌, ◌≤◌, ◌++◌, min};
+ghost use Rattle.std.specs.Prelude.{◌≡◌, ◌≤◌, ◌+◌, ◌++◌, min};
 ghost use Rattle.rh_figure.specs.declared.piece.Piece.{Piece};
 ghost use Rattle.rh_lens.specs.Items.{Item};
 ghost use Rattle.rh_lens.specs.Lens.{area_lens_text, band_heading, look_text, lower_text, module_strip};
@@ -10,7 +10,7 @@ ghost use Rattle.rh_lens.specs.LensBands.{heap_room as room_of_heap};
 ghost use Rattle.rh_lens.specs.LensBands.{heap_top as top_of_heap, heights_of as heights_of_look};
 ghost use Rattle.rh_lens.specs.Inner.FewRows.{AreFew, heights_seen};
 ghost use Rattle.rh_lens.specs.Views.{CanBeDrawn, CanBeStripped, ModuleCanBeDrawn, look_of, module_look_of};
-ghost use Rattle.rh_lens.specs.declared.sizes.TheConstants.{HEADING, MODULE_SCALE, MOST_SCALE, MOST_WIDTH};
+ghost use Rattle.rh_lens.specs.declared.sizes.TheConstants.{HEADING, MODULE_SCALE, MOST_PIECES, MOST_SCALE, MOST_WIDTH};
 
 use crate::anchors::{ShownAnchor, anchors_height, heap_left, print_anchors, print_arrows};
 use crate::bands::{count_rows, print_band, put_sentences};
@@ -59,7 +59,7 @@ const BANDS_TOP: u32 = STRIP + STRIP_GAP;
 
 /// Where the flex blocks of so many rows end.
 fn flex_foot(rows: u32) -> u32
-    requires { rows ≤ 1001 }
+    requires { rows ≤ MOST_PIECES + 1 }
     ensures value { result ≡ foot_of_flex rows }
     ensures few { result ≤ 100_000 }
 {
@@ -68,7 +68,7 @@ fn flex_foot(rows: u32) -> u32
 
 /// Where the C heap begins below flex blocks of so many rows.
 fn heap_top(rows: u32) -> u32
-    requires { rows ≤ 1001 }
+    requires { rows ≤ MOST_PIECES + 1 }
     ensures value { result ≡ top_of_heap rows }
     ensures few { result ≤ 101_000 }
 {
@@ -132,7 +132,7 @@ fn print_upper<C: Contents, P: Pen>(
     requires view { CanBeDrawn (C.has_piece contents.now) view.now }
     requires width { width ≤ MOST_WIDTH }
     requires scale { scale ≤ MOST_SCALE }
-    requires rows { rows ≤ 1001 }
+    requires rows { rows ≤ MOST_PIECES + 1 }
     ensures { P.offered pen.new ≡ P.offered pen.old
         ++ upper_text (look_of (C.item contents.now) view.now) width scale rows }
 {

@@ -13,6 +13,9 @@ pub const MOST_WIDTH: u32 = 1_700;
 /// A lens has at most so many units for 8 bytes.
 pub const MOST_SCALE: u32 = 64;
 
+/// A band has at most so many pieces.
+pub const MOST_PIECES: usize = 1_000;
+
 /// A letter has so many units.
 pub const LETTER: u32 = 7;
 

@@ -15,8 +15,8 @@ ghost use Rattle.rh_lens.specs.Widths.{is_small as is_small_size};
 ghost use Rattle.rh_lens.specs.Widths.{least_of as least_of_part, longest as longest_of, most_of as most_for};
 ghost use Rattle.rh_lens.specs.Widths.{part_width as width_of_part, scaled as scaled_by, told_size as told_size_of};
 ghost use Rattle.rh_lens.specs.Widths.{wished as wished_width};
-ghost use Rattle.rh_lens.specs.declared.sizes.TheConstants.{BUFFER_HEAD, EDGE, FLEX_LEAST};
-ghost use Rattle.rh_lens.specs.declared.sizes.TheConstants.{LETTER, MESSAGE_LEAST, MOST_LETTERS, MOST_SCALE};
+ghost use Rattle.rh_lens.specs.declared.sizes.TheConstants.{BUFFER_HEAD, EDGE, FLEX_HEAD, FLEX_LEAST};
+ghost use Rattle.rh_lens.specs.declared.sizes.TheConstants.{LETTER, MESSAGE_LEAST, MOST_CELLS, MOST_LETTERS, MOST_SCALE};
 ghost use Rattle.rh_map.specs.MapCards.{use_text};
 
 use crate::byte_words::are_zeros;
@@ -102,7 +102,7 @@ pub fn is_used(usage: Usage) -> bool
 /// Whether the bytes of a flex block of so many have cells in so many units.
 fn has_flex_cells(width: u32, size: u32) -> bool
     ensures value { (i : Item) (k : ℕ) → result ≡ has_cells_of width i (FlexBlock k size) }
-    ensures few { OnTrue result (size ≤ 16) }
+    ensures few { OnTrue result (size ≤ MOST_CELLS) }
 {
     is_small(size) && FLEX_HEAD + BYTE * size + CELLS_EDGE <= width
 }
@@ -110,7 +110,7 @@ fn has_flex_cells(width: u32, size: u32) -> bool
 /// Whether the bytes of a heap block of so many are told one by one.
 fn wants_cells(size: u32, inside: &Inside) -> bool
     ensures value { (i : Item) (p : Piece) → IsTold inside.now p i → result ≡ wants_cells_of i (Claimed size) }
-    ensures few { OnTrue result (size ≤ 16) }
+    ensures few { OnTrue result (size ≤ MOST_CELLS) }
 {
     is_used(inside.usage) && is_small(size) && !are_zeros(&inside.bytes)
 }
@@ -118,7 +118,7 @@ fn wants_cells(size: u32, inside: &Inside) -> bool
 /// Whether the bytes of a heap block of so many have cells in so many units.
 fn has_buffer_cells(width: u32, size: u32, inside: &Inside) -> bool
     ensures value { (i : Item) (p : Piece) → IsTold inside.now p i → result ≡ has_cells_of width i (Claimed size) }
-    ensures few { OnTrue result (size ≤ 16) }
+    ensures few { OnTrue result (size ≤ MOST_CELLS) }
 {
     wants_cells(size, inside) && BUFFER_HEAD + BYTE * size + CELLS_EDGE <= width
 }
@@ -137,7 +137,7 @@ pub fn has_cells(width: u32, kind: Kind, inside: &Inside) -> bool
 /// The units before a part's bytes.
 pub fn header_width(kind: Kind) -> u32
     ensures value { result ≡ header_of_kind kind }
-    ensures few { result ≤ 14 }
+    ensures few { result ≤ FLEX_HEAD }
 {
     match kind {
         Kind::FlexBlock { .. } => FLEX_HEAD,

@@ -13,6 +13,7 @@ AreLarger nodes = (k : ℕ) → 0 < k → k < length nodes / 2 → slice_index n
 abbrev pub HasWidth : ℕ → Type 0
 HasWidth n = (n ≡ 0) ⊎ ((d : ℕ) × (n ≡ 2 * 2 ^ d))
 
+-- so wide a row whose lower half has the larger of each two
 pub record IsTree (nodes : List ℕ) : Type 0 where
   pub width : HasWidth (length nodes)
   pub larger : AreLarger nodes

@@ -1,7 +1,7 @@
 //! What the figures of a sheet are painted with.
 
-/// Patterns of the pool's squares, of words and of holes, the heads of three kinds of arrow, and what ends an arrow
-/// whose message is held, or vanished.
+/// Patterns of the pool's squares, of words and of holes, on paper the stripes of holes, the heads of three kinds of
+/// arrow, and what ends an arrow whose message is held, or vanished.
 pub const SIGNS: &[u8] = b"\
 <pattern id=\"cells\" x=\"150\" width=\"32\" height=\"32\" patternUnits=\"userSpaceOnUse\">
 <path d=\"M32 0H0V32\"/>
@@ -12,6 +12,10 @@ pub const SIGNS: &[u8] = b"\
 <pattern id=\"stripes\" width=\"9\" height=\"9\" patternUnits=\"userSpaceOnUse\">
 <path d=\"M0 9L9 0M-2 2L2 -2M7 11L11 7\"/>
 </pattern>
+<linearGradient id=\"slant\" gradientUnits=\"userSpaceOnUse\" x2=\"4.5\" y2=\"4.5\" spreadMethod=\"repeat\">
+<stop offset=\"0.78\"/>
+<stop offset=\"0.78\"/>
+</linearGradient>
 <marker id=\"tip\" viewBox=\"0 0 8 8\" refX=\"7\" refY=\"4\" markerWidth=\"7\" markerHeight=\"7\" orient=\"auto\">
 <path d=\"M0 1L8 4L0 7z\"/>
 </marker>

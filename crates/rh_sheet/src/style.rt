@@ -12,6 +12,7 @@ pub const STYLE: &[u8] = b"\
 :root { --anchor: #ffe9a8; --lead: #8a6400; color-scheme: light dark; }
 :root { --around: drop-shadow(2px 0 0 var(--changed)) drop-shadow(-2px 0 0 var(--changed))
   drop-shadow(0 2px 0 var(--changed)) drop-shadow(0 -2px 0 var(--changed)); }
+:root { --stripes: url(#stripes); --words: url(#words); }
 * { box-sizing: border-box; }
 html { font: 16px/1.5 'Source Sans 3', 'Noto Sans', 'Liberation Sans', Arial, sans-serif; }
 body { display: flex; flex-direction: column; max-width: 100rem; margin: 0 auto; padding: 1.25rem 1.5rem 5rem; }
@@ -95,12 +96,12 @@ text { font-size: 16px; fill: var(--text); }
 .row { fill: var(--free); stroke: var(--edge); }
 .gone { fill: none; stroke: var(--changed); stroke-dasharray: 6 4; }
 .freed { fill: var(--free); stroke: var(--changed); stroke-width: 2; stroke-dasharray: 4 3; }
-.anchors { fill: url(#words); stroke: var(--edge); }
+.anchors { fill: var(--words); stroke: var(--edge); }
 .tick { stroke: var(--text); stroke-width: 1.25; transform: translateX(0.5px); }
 .head { fill: var(--ink); }
 .used { stroke: var(--ink); }
-.hole { fill: url(#stripes); stroke: var(--stripe); }
-.many { fill: url(#words); stroke: var(--ink); }
+.hole { fill: var(--stripes); stroke: var(--stripe); }
+.many { fill: var(--words); stroke: var(--ink); }
 .top { fill: none; }
 .spare { fill: none; }
 .flex { stroke: var(--free); stroke-width: 0.5; }
@@ -170,6 +171,8 @@ text { font-size: 16px; fill: var(--text); }
 /* patterns, and the ends of arrows */
 pattern path { fill: none; stroke: var(--faint); }
 #stripes path { stroke: var(--stripe); stroke-width: 1.4; }
+#slant stop { stop-color: var(--free); }
+#slant stop + stop { stop-color: var(--stripe); }
 #tip path { fill: var(--post); }
 #point path { fill: var(--changed); }
 #lead path { fill: var(--lead); }
@@ -212,8 +215,9 @@ pattern path { fill: none; stroke: var(--faint); }
   .memory svg:has(> [data-key]) { min-width: 0; }
 }
 
-/* on paper no step is cut, and no link is shown */
+/* on paper no step is cut, and no link is shown; a pattern would be a picture there, and make a print large */
 @media print {
+  :root { --stripes: url(#slant); --words: var(--faint); }
   @page { size: A4; margin: 12mm; }
   html { font-size: 11px; }
   body { display: block; max-width: none; padding: 0; }
