@@ -21,11 +21,11 @@ C11 = ["-std=c11", *STRICT]
 AS_IT_IS = "as it is"
 WAYS = {
     AS_IT_IS: ["-O2"],
-    "checked names": ["-O2", "-DVF_CHECKED", "-DCALLS=5000"],
-    "sanitizers": ["-O1", "-g", "-fsanitize=address,undefined", "-fno-sanitize-recover=all", "-DCALLS=4000"],
+    "checked names": ["-O0", "-DVF_CHECKED", "-DCALLS=5000"],
+    "sanitizers": ["-O1", "-g1", "-fsanitize=address,undefined", "-fno-sanitize-recover=all", "-DCALLS=4000"],
 }
 # The same where another machine is played by an emulator.
-EMULATED = {AS_IT_IS: ["-O2", "-DCALLS=2000"], "checked names": ["-O2", "-DVF_CHECKED", "-DCALLS=1000"]}
+EMULATED = {AS_IT_IS: ["-O2", "-DCALLS=2000"], "checked names": ["-O0", "-DVF_CHECKED", "-DCALLS=1000"]}
 # A run that hangs is ended after so many seconds.
 LONGEST = 120
 # The test that no call takes memory, the functions that it counts, and where the calls that it makes by a list stand;
