@@ -14,12 +14,8 @@ import make
 WINDOWS = ((1280, 720), (1366, 768), (1440, 900), (1920, 1080), (1024, 768), (820, 1180), (390, 844), (360, 640))
 # What has to be in sight at each step, and how much of it at least.
 IN_SIGHT = {"#step": 20, "#back": 20, "#slider": 10, "#shown": 14, "#frame": 110}
-# How much of each element is in the window; how far the page is scrolled, and could be; and which step is shown.
-SEEN_HEIGHTS = """((names) => [names.map((name) => {
-  const { top, bottom } = document.querySelector(name).getBoundingClientRect();
-  return Math.min(bottom, innerHeight) - Math.max(top, 0);
-}), scrollY, document.documentElement.scrollHeight - innerHeight,
-  document.querySelector('#shown').textContent.trim().slice(0, 20)])"""
+# An example is walked through by at most so many steps.
+MOST_STEPS = 30
 # How many pixels a unit of a lens has, in the smallest one.
 LEAST_OF_LENSES = """Math.min(...[...document.querySelector('#picture').shadowRoot.querySelectorAll('.memory svg')]
   .filter((it) => it.querySelector('[data-key]'))
@@ -60,9 +56,8 @@ def names_of_examples(width):
 def walk_in_sight(page, name, size):
     """Goes through an example, at each step of which the steps and the picture are in sight."""
     page.load(name)
-    for _ in range(min(30, len(make.examples_by_name()[name]["text"].splitlines()))):
-        page.click("step")
-        found, scrolled, over, shown = page.value(f"{SEEN_HEIGHTS}({json.dumps(list(IN_SIGHT))})")
+    steps = min(MOST_STEPS, len(make.examples_by_name()[name]["text"].splitlines()))
+    for found, scrolled, over, shown in page.script("walk.js", steps, list(IN_SIGHT)):
         short = {it: seen for (it, least), seen in zip(IN_SIGHT.items(), found) if seen < least}
         same([short, scrolled, max(0, over)], [{}, 0, 0],
              f"what isn't in sight, and what is scrolled, in {name} at {shown}, {size}")
