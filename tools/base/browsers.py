@@ -13,8 +13,11 @@ FIREFOX = ("firefox", "firefox-esr")
 WIDTHS = (1440, 420)
 HEIGHT = 900
 SECONDS = 120
-# The width and height of A4 in points, rounded down.
+# The width and height of A4 in points, rounded down; and the most bytes that a figure of memory takes on paper. What
+# became a picture there would take more.
 A4 = (594, 841)
+FIGURE_BYTES = 150_000
+FIGURES = "document.querySelectorAll('.memory').length"
 
 
 def installed():
@@ -51,6 +54,9 @@ def seen_by_chromium(tab, target):
         file.write(document)
     if not is_a4(document):
         yield "Chromium on paper: has made no PDF of A4 pages"
+    figures = tab.value(FIGURES)
+    if len(document) > FIGURE_BYTES * max(1, figures):
+        yield f"Chromium on paper: has made {len(document)} bytes of {figures} figures"
     yield from (f"Chromium: {fault}" for fault in tab.faults)
 
 

@@ -1,11 +1,12 @@
-"""What is wrong with a sheet, the page of HTML that `draw` writes, as far as that can be told without a browser."""
+"""What is wrong with a sheet, the page of HTML that `draw` writes, as far as that can be told without a browser.
 
-import html.parser
+A sheet is well-formed XML too, and is read as that.
+"""
+
 import re
 import xml.parsers.expat
 
-# Elements without an end, and those that load something or run it.
-VOID = {"meta", "br", "hr", "img", "input", "link", "base", "source", "embed"}
+# Elements that load something or run it.
 LOADING = {"script", "link", "img", "image", "iframe", "object", "embed", "audio", "video", "source", "base", "form"}
 LOADING_NAMES = {"src", "srcset", "poster", "data", "action", "formaction", "background", "style"}
 URL = re.compile(r"url\(\s*['\"]?([^)'\"]*)")
@@ -52,49 +53,59 @@ def number(text):
 
 def size_of(attributes):
     """The width and height that a figure's viewBox gives it, or None."""
-    sides = [number(word) for word in attributes.get("viewbox", "").split()]
+    sides = [number(word) for word in attributes.get("viewBox", "").split()]
     return tuple(sides[2:]) if len(sides) == 4 and None not in sides and sides[:2] == [0, 0] else None
 
 
-class Reading(html.parser.HTMLParser):
-    """A sheet as a browser reads it: what stands in it, and the faults that show on the way."""
+class Reading:
+    """A sheet as it is read: what stands in it, and the faults that show on the way."""
 
     def __init__(self):
-        super().__init__(convert_charrefs=True)
         self.faults = []
         self.open = []
         self.ids = {}
         self.links = []
         self.figures = []
         self.groups = {}
+        self.parser = xml.parsers.expat.ParserCreate("utf-8")
+        self.parser.buffer_text = True
+        self.parser.StartElementHandler = self.begins
+        self.parser.EndElementHandler = self.ends
+        self.parser.CharacterDataHandler = self.says
 
     @property
     def line(self):
-        return self.getpos()[0]
+        return self.parser.CurrentLineNumber
 
     def fault(self, text):
         self.faults.append(f"line {self.line}: {text}")
 
+    def read(self, text):
+        """All faults of a text. What isn't XML is read up to where it isn't."""
+        try:
+            self.parser.Parse(text.encode(), True)
+        except xml.parsers.expat.ExpatError as fault:
+            why = xml.parsers.expat.errors.messages[fault.code]
+            where = "".join(f", within <{tag}> of line {line}" for tag, line, _ in self.open[-1:])
+            return [*self.faults, f"line {fault.lineno}: no well-formed XML, {why}{where}"]
+        return self.faults + list(self.at_end())
+
     # ---- elements
 
-    def handle_starttag(self, tag, attrs):
-        self.element(tag, attrs)
-        if tag not in VOID:
-            self.open.append((tag, self.line, self.part(tag, dict(attrs))))
+    def begins(self, tag, attributes):
+        """Notes what an element says, and its faults."""
+        self.loads(tag, attributes)
+        if "id" in attributes:
+            self.name(attributes["id"])
+        self.draws(tag, attributes)
+        self.open.append((tag, self.line, self.part(tag, attributes)))
 
-    def handle_startendtag(self, tag, attrs):
-        self.element(tag, attrs)
+    def ends(self, _):
+        self.open.pop()
 
-    def handle_endtag(self, tag):
-        if self.open and self.open[-1][0] == tag:
-            self.open.pop()
-        else:
-            wanted = self.open[-1][0] if self.open else "nothing"
-            self.fault(f"</{tag}> ends what isn't open: {wanted} is")
-
-    def handle_data(self, data):
-        if self.open and self.open[-1][0] == "style":
-            self.style(data)
+    def says(self, text):
+        if self.open[-1][0] == "style":
+            self.style(text)
 
     def part(self, tag, attributes):
         """The figure or group that begins here, or else the one that goes on."""
@@ -106,17 +117,6 @@ class Reading(html.parser.HTMLParser):
             self.groups[attributes["id"]] = Figure(self.line)
             return self.groups[attributes["id"]]
         return around
-
-    def element(self, tag, attrs):
-        """Notes what an element says, and its faults."""
-        names = [name for name, _ in attrs]
-        for name in sorted({name for name in names if names.count(name) > 1}):
-            self.fault(f"<{tag}> has {name} twice")
-        attributes = {name: value or "" for name, value in attrs}
-        self.loads(tag, attributes)
-        if "id" in attributes:
-            self.name(attributes["id"])
-        self.draws(tag, attributes)
 
     def name(self, name):
         if name in self.ids:
@@ -161,29 +161,15 @@ class Reading(html.parser.HTMLParser):
 
     # ---- at the end
 
-    def end(self):
-        """All faults, those among them that show at the end alone."""
-        self.close()
-        unended = [f"line {line}: <{tag}> has no end" for tag, line, _ in self.open]
-        lost = [f"line {line}: a link leads to {name}, which isn't there"
-                for line, name in self.links if name not in self.ids]
-        outside = [fault for figure in self.figures for fault in figure.faults(self.groups)]
-        return self.faults + unended + lost + outside
-
-
-def ill_formed(text):
-    """Why a text isn't well-formed XML, in a list, which is empty where it is."""
-    parser = xml.parsers.expat.ParserCreate("utf-8")
-    try:
-        parser.Parse(text.encode(), True)
-    except xml.parsers.expat.ExpatError as fault:
-        return [f"line {fault.lineno}: no well-formed XML, {xml.parsers.expat.errors.messages[fault.code]}"]
-    return []
+    def at_end(self):
+        """Each fault that shows at the end alone."""
+        for line, name in self.links:
+            if name not in self.ids:
+                yield f"line {line}: a link leads to {name}, which isn't there"
+        for figure in self.figures:
+            yield from figure.faults(self.groups)
 
 
 def faults_of(content):
     """What is wrong with a sheet of these bytes. Bytes of remarks that aren't UTF-8 are no fault."""
-    text = content.decode(errors="replace")
-    reading = Reading()
-    reading.feed(text)
-    return ill_formed(text) + reading.end()
+    return Reading().read(content.decode(errors="replace"))

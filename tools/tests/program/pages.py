@@ -1,32 +1,22 @@
-"""Pages of HTML that the program writes, as they are read."""
+"""Pages of HTML that the program writes, as they are read: each is well-formed XML too."""
 
-import html.parser
-import xml.etree.ElementTree
+import xml.parsers.expat
 
 
-class Page(html.parser.HTMLParser):
-    """A page of HTML: its elements' names and ids, where its links lead, and its text."""
+class Page:
+    """A page of HTML: whether it is well-formed XML, its elements' names and ids, where its links lead, and its text."""
 
     def __init__(self, page):
-        super().__init__()
-        self.open, self.names, self.ids, self.links, self.texts, self.is_well = [], set(), [], set(), [], True
-        self.feed(page)
-        self.is_well = self.is_well and not self.open
-        self.text = "".join(self.texts)
-
-    def handle_starttag(self, name, attributes):
-        self.open.append(name)
-        self.note(name, dict(attributes))
-
-    def handle_startendtag(self, name, attributes):
-        self.note(name, dict(attributes))
-
-    def handle_endtag(self, name):
-        self.is_well = self.is_well and self.open[-1:] == [name]
-        del self.open[-1:]
-
-    def handle_data(self, text):
-        self.texts.append(text)
+        self.names, self.ids, self.links, texts = set(), [], set(), []
+        parser = xml.parsers.expat.ParserCreate("utf-8")
+        parser.buffer_text = True
+        parser.StartElementHandler, parser.CharacterDataHandler = self.note, texts.append
+        self.is_well = True
+        try:
+            parser.Parse(page.encode(), True)
+        except xml.parsers.expat.ExpatError:
+            self.is_well = False
+        self.text = "".join(texts)
 
     def note(self, name, attributes):
         self.names.add(name)
@@ -48,10 +38,10 @@ def page_of(suite, what, words, status, **how):
     return output, page
 
 
-def is_xml(text):
-    """Whether a text is well-formed XML."""
+def is_xml(content):
+    """Whether bytes are well-formed XML, in UTF-8."""
     try:
-        xml.etree.ElementTree.fromstring(text)
-    except xml.etree.ElementTree.ParseError:
+        xml.parsers.expat.ParserCreate().Parse(content, True)
+    except xml.parsers.expat.ExpatError:
         return False
     return True
