@@ -3,9 +3,9 @@
 
 import { LESS_MOTION, MOTION, layerOver } from "./movement.js";
 
-const MOST_CHIPS = 16;
+const MOST_FLYERS = 16;
 const FLIGHT = { duration: 600, easing: MOTION.easing, fill: "both" };
-// So long after the one before it a chip begins, and so wide it is.
+// So long after the one before it a byte begins, and so wide it is.
 const APART = 40;
 const WIDTH = 16;
 const INTO_BUFFER = /^([1-9]\d*) bytes? into the buffer of (.+) at (&[0-9A-F]+)$/;
@@ -68,11 +68,11 @@ export const copiesBytes = (changes) => changes.some((text) => INTO_BUFFER.test(
   || INTO_DOCUMENT.test(text) && changes.some((other) => TAKES.test(other)));
 
 // A byte that is to fly.
-function chipOf(byte) {
-  const chip = document.createElement("span");
-  chip.className = "chip";
-  chip.textContent = byte > 32 && byte < 127 ? String.fromCharCode(byte) : "·";
-  return chip;
+function flyerOf(byte) {
+  const flyer = document.createElement("span");
+  flyer.className = "flyer";
+  flyer.textContent = byte > 32 && byte < 127 ? String.fromCharCode(byte) : "·";
+  return flyer;
 }
 
 // Lets the bytes that a command has copied fly over a figure, from the cards that it had before to those that it has.
@@ -83,11 +83,11 @@ export function flyBytes(figure, before, changes) {
   if (!way?.bytes.length) return [];
   const places = [way.from.place, way.to.place];
   if (LESS_MOTION.matches) return places;
-  const chips = way.bytes.slice(0, MOST_CHIPS).map(chipOf);
-  layerOver(figure, chips, (chip) => {
-    const at = chips.indexOf(chip);
+  const flyers = way.bytes.slice(0, MOST_FLYERS).map(flyerOf);
+  layerOver(figure, flyers, (flyer) => {
+    const at = flyers.indexOf(flyer);
     const path = places.map(({ left, top }) => ({ transform: `translate(${left + at * WIDTH}px, ${top}px)` }));
-    return chip.animate(path, { ...FLIGHT, delay: at * APART });
+    return flyer.animate(path, { ...FLIGHT, delay: at * APART });
   });
   return places;
 }

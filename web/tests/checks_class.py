@@ -426,7 +426,7 @@ FLYING = """(async (button) => {
     const [x, y] = transform.match(/-?[0-9.]+/g).map(Number);
     return places.find((it) => x >= it.left && x < it.left + it.width && y >= it.top && y < it.top + it.height)?.name;
   };
-  const found = moves.filter(({ effect }) => effect.target.matches('.chip')).map(({ effect }) => {
+  const found = moves.filter(({ effect }) => effect.target.matches('.flyer')).map(({ effect }) => {
     const [from, to] = effect.getKeyframes();
     return [effect.target.textContent, under(before, from), under(cards(), to),
       effect.getTiming().delay];

@@ -19,6 +19,14 @@ MISSING = f"""((tree) => {{
   const named = [...text.matchAll(/url\\(["']?#([^"')]+)/g)].map((it) => it[1]);
   return [named.length > 0, [...new Set(named)].filter((id) => !tree.getElementById(id))];
 }})({TREE})"""
+# The rectangles of some pictures: how many there are, and those that aren't drawn where the sheet has them.
+MOVED = """((pictures) => {
+  const boxes = pictures.flatMap((name) => [...document.querySelector(name).shadowRoot.querySelectorAll('svg rect')])
+    .filter((box) => box.checkVisibility());
+  const isMoved = (box) => ['x', 'y', 'width', 'height'].some((side) =>
+    Math.abs(box.getBBox()[side] - Number(box.getAttribute(side))) > 0.1);
+  return [boxes.length, boxes.filter(isMoved).map((box) => box.outerHTML)];
+})(['#picture', '#chart'])"""
 FRAMES = f"[...{TREE}.querySelectorAll('.wide')]"
 # How far what is at the right of the first frame's picture is from the frame's own right edge.
 RIGHT = f"""(([frame]) => Math.abs(frame.querySelector('svg').getBoundingClientRect().right
@@ -55,6 +63,20 @@ def show_step(page):
     page.load("transfer")
     for _ in range(5):
         page.click("step")
+
+
+def check_true_places(bench):
+    """Each rectangle of the pictures is drawn where the sheet has it, and as large: the page's own style moves none."""
+    with bench.kept_page() as page:
+        for view in ("picture", "lens"):
+            page.look(view)
+            for name in ("transfer", "lessons/holes"):
+                page.load(name)
+                for _ in range(9):
+                    page.click("step")
+                count, moved = page.value(MOVED)
+                holds(count > 12, f"{name} has {count} rectangles by {view}")
+                same(moved, [], f"what stands elsewhere in {name} by {view}")
 
 
 def check_legend(bench):
