@@ -14,7 +14,8 @@ ghost use Rattle.rh_lens.specs.LensSpots.{spots};
 ghost use Rattle.rh_lens.specs.PartWords.{Choices, fitted_words};
 ghost use Rattle.rh_lens.specs.PlacedSpots.{AreTellable, seen_items, part_spot};
 ghost use Rattle.rh_lens.specs.ToldInside.{lines_of};
-ghost use Rattle.rh_lens.specs.declared.sizes.TheConstants.{ANCHOR_WIDTH, ARROWS, MOST_PIECES, MOST_SCALE, MOST_WIDTH, PART};
+ghost use Rattle.rh_lens.specs.declared.sizes.TheConstants.{ANCHOR_WIDTH, ARROWS, MOST_PIECES};
+ghost use Rattle.rh_lens.specs.declared.sizes.TheConstants.{MOST_SCALE, MOST_WIDTH, PART};
 ghost use Rattle.rh_lines.specs.declared.row.TheConstants.{ROW};
 
 use crate::bands::spot_of_block;

@@ -15,8 +15,8 @@ ghost use Rattle.rh_lens.specs.Widths.{is_small as is_small_size};
 ghost use Rattle.rh_lens.specs.Widths.{least_of as least_of_part, longest as longest_of, most_of as most_for};
 ghost use Rattle.rh_lens.specs.Widths.{part_width as width_of_part, scaled as scaled_by, told_size as told_size_of};
 ghost use Rattle.rh_lens.specs.Widths.{wished as wished_width};
-ghost use Rattle.rh_lens.specs.declared.sizes.TheConstants.{BUFFER_HEAD, EDGE, FLEX_HEAD, FLEX_LEAST};
-ghost use Rattle.rh_lens.specs.declared.sizes.TheConstants.{LETTER, MESSAGE_LEAST, MOST_CELLS, MOST_LETTERS, MOST_SCALE};
+ghost use Rattle.rh_lens.specs.declared.sizes.TheConstants.{BUFFER_HEAD, EDGE, FLEX_HEAD, FLEX_LEAST, LETTER};
+ghost use Rattle.rh_lens.specs.declared.sizes.TheConstants.{MESSAGE_LEAST, MOST_CELLS, MOST_LETTERS, MOST_SCALE};
 ghost use Rattle.rh_map.specs.MapCards.{use_text};
 
 use crate::byte_words::are_zeros;
