@@ -32,13 +32,16 @@ EDGE_COLOURS = """((it) => {
   const { borderTopColor, outlineColor } = getComputedStyle(it);
   return [borderTopColor, outlineColor, around.find((colour) => colour.startsWith('rgb('))];
 })(document.activeElement)"""
+# Elements of the picture that have no colour of their own.
+COLOURLESS = ["title", "desc", "g", "defs", "pattern", "linearGradient", "marker", "use"]
 # The colours of the picture's shapes: what each is, and its two colours. A line that isn't closed has nothing to fill.
-SHAPES = """[...document.querySelector('#picture').shadowRoot.querySelectorAll('svg *')]
-  .filter((it) => !['title', 'desc', 'g', 'defs', 'pattern', 'marker', 'use'].includes(it.localName)).map((it) => {
-    const { fill, stroke } = getComputedStyle(it);
+SHAPES = f"""[...document.querySelector('#picture').shadowRoot.querySelectorAll('svg *')]
+  .filter((it) => !{COLOURLESS}.includes(it.localName)).map((it) => {{
+    const {{ fill, stroke, stopColor }} = getComputedStyle(it);
     const isLine = it.localName === 'path' && stroke !== 'none' && fill === 'rgb(0, 0, 0)';
-    return [`${it.localName}.${it.getAttribute('class')}`, isLine ? 'none' : fill, stroke];
-  })"""
+    const inside = it.localName === 'stop' ? stopColor : fill;
+    return [`${{it.localName}}.${{it.getAttribute('class')}}`, isLine ? 'none' : inside, stroke];
+  }})"""
 
 # The colours of the lines around what the last command has changed.
 FRESH_COLOURS = """[...new Set([...document.querySelector('#picture').shadowRoot.querySelectorAll('svg .fresh')]
