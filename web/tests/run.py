@@ -30,7 +30,7 @@ MOST_WRONG = 5
 TIMED = ("long_scripts", "quick_steps")
 # How many seconds of a processor a test takes that takes many, where 20 million additions in python3 take 0.98; and what
 # one of the others takes. By these the shares take about as long.
-DEAR = {"windows": 26, "lens_in_windows": 9, "replies": 5, "contrast": 3, "changed_in_sight": 3, "words_of_figures": 2,
+DEAR = {"windows": 15, "lens_in_windows": 5, "replies": 5, "contrast": 3, "changed_in_sight": 3, "words_of_figures": 2,
         "contrast_of_lens": 2, "sheets_alone": 2, "changed_in_lens": 2, "flight": 2, "history_kept": 1.2,
         "loaded_too_long": 1.2, "examples": 1.2, "names_of_chart": 1.2, "dark_picture": 1.2, "changed_blocks": 1,
         "drawn_files": 1, "lessons": 1, "pictures": 1, "left_page": 1, "as_program": 1, "loaded_with_link": 1}
