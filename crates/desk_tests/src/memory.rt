@@ -162,8 +162,10 @@ fn constructors_and_runs_are_refused_memory_in_turn(rt: HostRuntime) -> Result<(
             }
             refused = trial + 1;
         }
-        let in_turn = 0 < refused && refused < TRIALS;
-        same(&rt, (number, in_turn || !is_short), (number, true));
+        same(&rt, (number, 0 < refused || !is_short), (number, true));
+        drop(scarce);
+        let made = makes(&rt, alloc, *maker);
+        same(&rt, (number, made), (number, true));
     }
     Ok(())
 }

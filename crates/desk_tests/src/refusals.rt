@@ -59,12 +59,13 @@ fn try_program<R: Abort + rt::Files + AllocGlobal>(
         no_memory.meets(runtime, &found);
         refused = turn + 1;
     }
-    let in_turn = 0 < refused && refused < TRIALS;
     same(
         runtime,
-        (trial.words, in_turn || !is_short),
+        (trial.words, 0 < refused || !is_short),
         (trial.words, true),
     );
+    drop(scarce);
+    trial.meets(runtime, &ended(runtime, all.as_slice()));
     Ok(())
 }
 
