@@ -13,10 +13,11 @@ FIREFOX = ("firefox", "firefox-esr")
 WIDTHS = (1440, 420)
 HEIGHT = 900
 SECONDS = 120
-# The width and height of A4 in points, rounded down; and the most bytes that a figure of memory takes on paper. What
-# became a picture there would take more.
+# The width and height of A4 in points, rounded down.
 A4 = (594, 841)
-FIGURE_BYTES = 150_000
+# The most bytes that words with their fonts take on paper, and each figure of memory. What became a picture there would
+# take more.
+WORDS_BYTES, FIGURE_BYTES = 300_000, 100_000
 FIGURES = "document.querySelectorAll('.memory').length"
 
 
@@ -55,7 +56,7 @@ def seen_by_chromium(tab, target):
     if not is_a4(document):
         yield "Chromium on paper: has made no PDF of A4 pages"
     figures = tab.value(FIGURES)
-    if len(document) > FIGURE_BYTES * max(1, figures):
+    if len(document) > WORDS_BYTES + FIGURE_BYTES * figures:
         yield f"Chromium on paper: has made {len(document)} bytes of {figures} figures"
     yield from (f"Chromium: {fault}" for fault in tab.faults)
 
