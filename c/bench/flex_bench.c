@@ -1,11 +1,16 @@
 /*
  * flex_bench.c: what calls on 64 flex blocks take, beside a plain slot of the same rules: a block comes and goes on top,
- * the lowest one goes and comes back on top, and the lowest and the top one get bytes and lose them.
+ * the lowest one goes and comes back on top, and the lowest and the top one get bytes and lose them. With words it makes
+ * pairs of calls for somebody who counts instructions:
+ *
+ *     flex_bench CALLS BYTES PAIRS
  */
 #define _POSIX_C_SOURCE 200809L
 #include "bench.h"
 #include "flex_slot.h"
 #include "slot_check.h"
+
+#include <string.h>
 
 enum { LEN = 2 << 20, BLOCKS = 64, MORE = 40, MOVED = 20000 };
 
@@ -100,13 +105,12 @@ static const struct pair PAIRS[] = {
     {"extend at the top", top_grows_and_shrinks},
 };
 
-/* Microseconds of one call of a pair, with 64 blocks of `n` bytes. */
-static double timed(const struct flex *flex, const struct pair *pair, size_t n)
+/* Microseconds of one call of so many pairs, with 64 blocks of `n` bytes. */
+static double timed(const struct flex *flex, const struct pair *pair, size_t n, uint32_t pairs)
 {
     must(flex->start(memory, LEN, &slot));
     for (uint32_t anchor = 0; anchor < BLOCKS; anchor++)
         alloc(flex, anchor, n);
-    uint32_t pairs = (uint32_t)(MOVED / n * BLOCKS);
     double start = seconds();
     for (uint32_t turn = 0; turn < pairs; turn++)
         pair->run(flex, turn, n);
@@ -118,15 +122,28 @@ static void compare(const struct pair *pair, size_t n)
     double least[WAYS];
     for (int round = 0; round < ROUNDS; round++)
         for (int way = 0; way < WAYS; way++) {
-            double time = timed(&FLEX[way], pair, n);
+            double time = timed(&FLEX[way], pair, n, (uint32_t)(MOVED / n * BLOCKS));
             least[way] = round == 0 || time < least[way] ? time : least[way];
         }
     printf("| %s, %zu bytes |", pair->name, n);
     print_times(least);
 }
 
-int main(void)
+/* Makes the pairs of calls that the words name, and times none. */
+static int make(char **words)
 {
+    for (size_t i = 0; i < sizeof PAIRS / sizeof *PAIRS; i++)
+        if (strcmp(PAIRS[i].name, words[0]) == 0) {
+            timed(&FLEX[PROVED], &PAIRS[i], (size_t)atol(words[1]), (uint32_t)atol(words[2]));
+            return 0;
+        }
+    return 2;
+}
+
+int main(int count, char **words)
+{
+    if (count == 4)
+        return make(words + 1);
     static const size_t SIZES[] = {100, 1000};
     print_head("a call on 64 flex blocks", "Calls, and the bytes of each block");
     for (size_t size = 0; size < sizeof SIZES / sizeof *SIZES; size++)

@@ -1,11 +1,15 @@
 /*
  * heap_bench.c: what a claim and a release take, beside the plain heap of the same rules: with 100, 1,000 and 10,000
  * live blocks of 100 bytes, none or every second one of them freed, and claims that fit the first hole or none. Then
- * the same with a map beside the heap.
+ * the same with a map beside the heap. With words it makes pairs of calls for somebody who counts instructions:
+ *
+ *     heap_bench proved|mapped LIVE SHAPE PAIRS
  */
 #define _POSIX_C_SOURCE 200809L
 #include "bench.h"
 #include "os_heap.h"
+
+#include <string.h>
 
 enum { LEN = 4 << 20, WORDS = 2 * LEN / 512, MOST = 10000, BLOCK = 100, FITS = 50, FITS_NONE = 300, CALLS = 400000 };
 
@@ -120,8 +124,23 @@ static void for_each_shape(void (*row)(const struct shape *shape, int live))
             row(&SHAPES[i], live);
 }
 
-int main(void)
+/* Makes the pairs of calls that the words name, and times none. */
+static int make(char **words)
 {
+    const struct heap *heap = strcmp(words[0], "mapped") == 0 ? &MAPPED : &HEAPS[PROVED];
+    for (size_t i = 0; i < sizeof SHAPES / sizeof *SHAPES; i++)
+        if (strcmp(SHAPES[i].name, words[2]) == 0) {
+            set_up(heap, &SHAPES[i], atoi(words[1]));
+            timed(heap, SHAPES[i].claimed, atoi(words[3]));
+            return 0;
+        }
+    return 2;
+}
+
+int main(int count, char **words)
+{
+    if (count == 5)
+        return make(words + 1);
     print_head("a claim or a release", "Live blocks");
     for_each_shape(compare);
     printf("\n| Live blocks | with a map | without | with / without |\n|---|---|---|---|\n");
