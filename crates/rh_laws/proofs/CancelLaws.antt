@@ -28,12 +28,12 @@ use Rattle.rh_laws.proofs.ProgressLaws.{find-has, found-named}
 
 -- ---- one record of an id
 
-above : {A : Type 0} (f : A → ℕ) (least next : ℕ) (xs : List A) (x : A) → Rise f least next xs → Has x xs → least ≤ f x
+pub above : {A : Type 0} (f : A → ℕ) (least next : ℕ) (xs : List A) (x : A) → Rise f least next xs → Has x xs → least ≤ f x
 above f least next [] x r has = absurd has
 above f least next (y ∷ xs) x r (inl same) = subst (λ z. least ≤ f z) same r.0
 above f least next (y ∷ xs) x r (inr has) = let z = above f (f y + 1) next xs x r.1 has in let w = r.0 in omega arith
 
-one-of : {A : Type 0} (f : A → ℕ) (least next : ℕ) (xs : List A) (x y : A) → Rise f least next xs → Has x xs → Has y xs → f x ≡ f y → x ≡ y
+pub one-of : {A : Type 0} (f : A → ℕ) (least next : ℕ) (xs : List A) (x y : A) → Rise f least next xs → Has x xs → Has y xs → f x ≡ f y → x ≡ y
 one-of f least next [] x y r h k e = absurd h
 one-of f least next (z ∷ xs) x y r (inl a) (inl b) e = sym a ∙ b
 one-of f least next (z ∷ xs) x y r (inl a) (inr k) e =

@@ -109,4 +109,6 @@ pub mod PlayedRaws
 pub mod PlayedSteps
 pub mod PlayedLaws
 pub mod PlayedRows
+pub mod RecordLifeLaws
+pub mod RecordLifeRows
 pub mod Common

@@ -22,3 +22,4 @@ pub mod ScrapEnds
 pub mod Contents
 pub mod RawHandles
 pub mod Beside
+pub mod RecordLives
