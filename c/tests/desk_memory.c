@@ -212,6 +212,8 @@ static void calls_of_programs(void)
          vf_desk_spool(&desk, VF_TEXT("e"), 0, handle, 0, &number));
     EXPECT(vf_desk_take(&desk, VF_TEXT("e"), &message, &number) == VF_OK && number == 18);
     BOTH(vf_desk_scrap(&desk, VF_TEXT("e"), 1, &number), vf_desk_scrap(&desk, VF_TEXT("e"), 1, &number));
+    BOTH(vf_desk_write_at(&desk, VF_TEXT("e"), address + 4900, abc, 3),
+         vf_desk_write_at(&desk, VF_TEXT("e"), address + 4998, abc, 3));
     EXPECT(vf_desk_transfer_to(&desk, VF_TEXT("e"), address, handle, address, 0) != VF_OK);
     EXPECT(vf_desk_kill(&desk, VF_TEXT("e")) == VF_OK);
 }

@@ -144,6 +144,9 @@ static void calls_see_null(struct vf_desk *it, size_t n)
     IS_NULL(vf_desk_ack(NULL, name, n, &number));
     IS_NULL(vf_desk_ack(it, NULL, n, &number));
     IS_NULL(vf_desk_ack(it, name, n, NULL));
+    IS_NULL(vf_desk_write_at(NULL, name, n, 1, name, n));
+    IS_NULL(vf_desk_write_at(it, NULL, n, 1, name, n));
+    IS_NULL(vf_desk_write_at(it, name, n, 1, NULL, n));
     IS_NULL(vf_desk_transfer_to(NULL, name, n, 1, 1, 1, 1));
     IS_NULL(vf_desk_transfer_to(it, NULL, n, 1, 1, 1, 1));
     IS_NULL(vf_desk_spool(NULL, name, n, 1, 1, 0, &number));

@@ -9,7 +9,7 @@
 
 enum { PAGES = 16, FIRST_FLEX = 0x9008, FIRST_HEAP = 0x8114, ROOM_OF_TEXT = 1 << 16, MOST_DATA = 236 };
 enum { DATA_SAVE = 1, DATA_SAVE_ACK = 2, DATA_LOAD = 3, DATA_LOAD_ACK = 4, RAM_FETCH = 6, RAM_TRANSMIT = 7 };
-enum { USER = 17, RECORDED = 18, ACKNOWLEDGE = 19, ROOM_OF_BUFFER = 4 };
+enum { USER = 17, RECORDED = 18, ACKNOWLEDGE = 19, ROOM_OF_BUFFER = 4, LONG = 600 };
 
 #define LAST UINT32_MAX
 #define A VF_TEXT("a")
@@ -145,6 +145,7 @@ static void closed_desks_answer_so(void)
     EXPECT(vf_desk_take(&desk, R, &message, &code) == VF_CLOSED);
     EXPECT(vf_desk_send(&desk, R, USER, 1, 0, 9, data, 0, &number) == VF_CLOSED);
     EXPECT(vf_desk_ack(&desk, R, &number) == VF_CLOSED);
+    EXPECT(vf_desk_write_at(&desk, R, 0, data, 0) == VF_CLOSED);
     EXPECT(vf_desk_transfer_to(&desk, R, 0, 1, 0, 0) == VF_CLOSED);
     EXPECT(vf_desk_spool(&desk, R, 0, 1, 0, &number) == VF_CLOSED);
     EXPECT(vf_desk_scrap(&desk, R, 0, &number) == VF_CLOSED);
@@ -161,6 +162,8 @@ static void arguments_have_forms(void)
     REFUSES(VF_BAD_ARGUMENT, vf_desk_send(&desk, R, USER, 1, 0, 9, data, 3, &number));
     REFUSES(VF_BAD_ARGUMENT, vf_desk_send(&desk, R, USER, 1, 0, 9, data, MOST_DATA + 4, &number));
     REFUSES(VF_BAD_ARGUMENT, vf_desk_ack(&desk, VF_TEXT(""), &number));
+    REFUSES(VF_BAD_ARGUMENT, vf_desk_write_at(&desk, VF_TEXT("1a"), 0, data, 1));
+    REFUSES(VF_BAD_ARGUMENT, vf_desk_write_at(&desk, NONE, 0, data, 0));
     REFUSES(VF_BAD_ARGUMENT, vf_desk_transfer_to(&desk, R, 0, 0, 0, 0));
     REFUSES(VF_BAD_ARGUMENT, vf_desk_transfer_to(&desk, R, 0, 1, 0, 0x80000000u));
     REFUSES(VF_BAD_ARGUMENT, vf_desk_spool(&desk, R, 64, 1, 0, &number));
@@ -178,6 +181,8 @@ static void calls_are_refused(void)
     REFUSES(VF_BAD_REF, vf_desk_send(&desk, R, USER, 1, 1, 9, data, 0, &number));
     REFUSES(VF_NO_NAME, vf_desk_ack(&desk, NONE, &number));
     REFUSES(VF_WRONG_MANNER, vf_desk_ack(&desk, A, &number));
+    REFUSES(VF_NO_NAME, vf_desk_write_at(&desk, NONE, 0, data, 1));
+    REFUSES(VF_BAD_RANGE, vf_desk_write_at(&desk, A, FIRST_FLEX, data, 1));
     REFUSES(VF_NO_NAME, vf_desk_transfer_to(&desk, NONE, 0, 9, 0, 1));
     REFUSES(VF_BAD_RANGE, vf_desk_transfer_to(&desk, A, 0, 9, 0, 1));
     REFUSES(VF_NO_NAME, vf_desk_spool(&desk, NONE, 0, 9, LAST, &number));
@@ -186,6 +191,8 @@ static void calls_are_refused(void)
     REFUSES(VF_NO_FILE, vf_desk_scrap(&desk, A, 0, &number));
     put_text(A, 0, "abc");
     put_text(R, 0, "xyz");
+    REFUSES(VF_WRONG_MANNER, vf_desk_write_at(&desk, A, FIRST_FLEX, data, 3));
+    REFUSES(VF_BAD_RANGE, vf_desk_write_at(&desk, A, FIRST_FLEX, data, 4));
     REFUSES(VF_NO_TASK, vf_desk_transfer_to(&desk, A, FIRST_FLEX, 9, 0, 3));
     REFUSES(VF_BAD_RANGE, vf_desk_transfer_to(&desk, A, FIRST_FLEX, 2, FIRST_HEAP, 3));
     REFUSES(VF_BAD_RANGE, vf_desk_transfer_to(&desk, R, FIRST_FLEX, 3, FIRST_FLEX, 3));
@@ -195,6 +202,46 @@ static void calls_are_refused(void)
     REFUSES(VF_WRONG_MANNER, vf_desk_save(&desk, R, 0, A, VF_TEXT("l"), &number));
     DOES(vf_desk_free(&desk, A, 0));
     DOES(vf_desk_free(&desk, R, 0));
+}
+
+/* Whether these bytes, and no others of the desk, stand at an address of r in its block that begins at another. */
+static bool has_written(uint32_t begin, uint32_t at, const uint8_t *bytes, uint32_t n)
+{
+    uint8_t shown[LONG];
+    uint32_t size;
+    DOES(vf_desk_read(&desk, R, begin, 0, shown, 0, &size));
+    DOES(vf_desk_read(&desk, R, begin, 0, shown, size, &size));
+    for (uint32_t i = 0; i < size; i++)
+        if (shown[i] != (begin + i >= at && begin + i < at + n ? bytes[begin + i - at] : 0))
+            return false;
+    return true;
+}
+
+/* Bytes anywhere in a block of r, but not in its headers, in a hole or past its end; b's stay. */
+static void a_program_writes(void)
+{
+    uint8_t bytes[LONG + 1];
+    for (uint32_t i = 0; i <= LONG; i++)
+        bytes[i] = (uint8_t)(i % 250 + 1);
+    put_text(B, 0, "b's");
+    TELLS(FIRST_FLEX, vf_desk_alloc(&desk, R, 0, LONG, &number));
+    TELLS(FIRST_HEAP, vf_desk_claim(&desk, R, 20, &number));
+    REFUSES(VF_BAD_RANGE, vf_desk_write_at(&desk, R, FIRST_FLEX - 1, bytes, 1));
+    REFUSES(VF_BAD_RANGE, vf_desk_write_at(&desk, R, FIRST_FLEX, bytes, LONG + 1));
+    REFUSES(VF_BAD_RANGE, vf_desk_write_at(&desk, R, FIRST_FLEX + LONG, bytes, 1));
+    REFUSES(VF_BAD_RANGE, vf_desk_write_at(&desk, R, FIRST_HEAP - 1, bytes, 1));
+    REFUSES(VF_BAD_RANGE, vf_desk_write_at(&desk, R, FIRST_HEAP + 19, bytes, 2));
+    REFUSES(VF_BAD_RANGE, vf_desk_write_at(&desk, R, LAST, bytes, 1));
+    DOES(vf_desk_write_at(&desk, R, FIRST_FLEX + 3, bytes, 2));
+    EXPECT(has_written(FIRST_FLEX, FIRST_FLEX + 3, bytes, 2) && has_written(FIRST_HEAP, 0, bytes, 0));
+    DOES(vf_desk_write_at(&desk, R, FIRST_FLEX, bytes, LONG));
+    EXPECT(has_written(FIRST_FLEX, FIRST_FLEX, bytes, LONG) && has_written(FIRST_HEAP, 0, bytes, 0));
+    DOES(vf_desk_write_at(&desk, R, FIRST_HEAP + 19, bytes, 1));
+    EXPECT(has_written(FIRST_HEAP, FIRST_HEAP + 19, bytes, 1) && has_written(FIRST_FLEX, FIRST_FLEX, bytes, LONG));
+    EXPECT(has_text(B, 0, "b's"));
+    DOES(vf_desk_free(&desk, B, 0));
+    DOES(vf_desk_free(&desk, R, 0));
+    DOES(vf_desk_release(&desk, R, FIRST_HEAP));
 }
 
 /* Messages of any action between two tasks with code of their own; one that isn't answered comes back. */
@@ -394,6 +441,7 @@ int main(void)
     open_desk(1);
     arguments_have_forms();
     calls_are_refused();
+    a_program_writes();
     messages_of_any_action();
     a_program_saves();
     a_program_loads();

@@ -356,6 +356,8 @@ static bool on_programs(struct vf_desk *desk)
         with_number(vf_desk_send(desk, NAME(1), number(2), number(3), number(4), number(5), bytes, length, &n), &n);
     } else if (IS(0, "ack"))
         with_number(vf_desk_ack(desk, NAME(1), &n), &n);
+    else if (IS(0, "write"))
+        plain(vf_desk_write_at(desk, NAME(1), address(2), bytes, bytes_of(3, bytes)));
     else if (IS(0, "transfer"))
         plain(vf_desk_transfer_to(desk, NAME(1), address(2), number(3), address(4), number(5)));
     else if (IS(0, "spool"))
@@ -367,10 +369,10 @@ static bool on_programs(struct vf_desk *desk)
     return true;
 }
 
-/* Bytes by an address have no call: a line does it. */
+/* Bytes from the middle of a block on have no call that shows them: a line does it. */
 static bool by_line(struct vf_desk *desk, const char *line)
 {
-    if (!IS(0, "read") && !IS(0, "write"))
+    if (!IS(0, "read"))
         return false;
     if (done(vf_desk_line(desk, VF_TEXT(line))))
         done(vf_desk_reply(desk, (uint8_t *)told, sizeof told, &told_len));

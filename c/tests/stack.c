@@ -213,6 +213,7 @@ static void desk_programs(void)
     vf_desk_alloc(&desk, VF_TEXT("raw"), 0, 5000, &told);
     vf_desk_send(&desk, VF_TEXT("raw"), 18, 3, 0, 6, bytes, 236, &told);
     vf_desk_take(&desk, VF_TEXT("raw"), &message, &told);
+    vf_desk_write_at(&desk, VF_TEXT("raw"), 0x9009, bytes, 99);
     vf_desk_transfer_to(&desk, VF_TEXT("raw"), 0x9008, 1, 0x8114, 1);
     vf_desk_ack(&desk, VF_TEXT("raw"), &told);
     vf_desk_spool(&desk, VF_TEXT("raw"), 0, 3, 0, &told);

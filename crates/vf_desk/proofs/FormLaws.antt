@@ -4,6 +4,7 @@ use Rattle.vf_desk.proofs.Common.{Command, is_name, in_range, in_form}
 use Rattle.std.specs.Prelude.{◌&&◌}
 use Rattle.std.specs.Result.{is_err}
 use Rattle.rh_defs.specs.declared.command.Command.TheVariants as command
+use Rattle.rh_defs.specs.declared.raw_command.RawCommand.TheVariants as raw
 use Rattle.std.proofs.lemmas.Bool.Decides.{nat_tests}
 use Rattle.std.proofs.Common.{arith}
 use Rattle.rh_defs.specs.Forms.{is_anchor, is_number}
@@ -96,6 +97,21 @@ module _ (name bytes : List ℕ) (anchor offset : ℕ) where
       → in_range (command.Put name anchor offset bytes) ≡ true
   unfolding in_range
   put-good a b c d = rw (a, b, size-of offset true c, d) refl
+
+-- ---- whether bytes can be written at an address
+
+module _ (name bytes : List ℕ) (address : ℕ) where
+  pub write-name : is_name name ≡ false → in_range (command.Raw (raw.Write name address bytes)) ≡ false
+  unfolding in_range
+  write-name a = rw a refl
+
+  pub write-bytes : is_name name ≡ true → nat_le 1 (length bytes) ≡ false → in_range (command.Raw (raw.Write name address bytes)) ≡ false
+  unfolding in_range
+  write-bytes a b = rw (a, b) refl
+
+  pub write-good : is_name name ≡ true → nat_le 1 (length bytes) ≡ true → in_range (command.Raw (raw.Write name address bytes)) ≡ true
+  unfolding in_range
+  write-good a b = rw (a, b) refl
 
 -- ---- commands of arguments that are read as others are
 
