@@ -829,8 +829,9 @@ uint32_t vf_desk_rma_write(struct vf_desk *desk, uint32_t address, uint32_t offs
 
 /* Wimp_TransferBlock: moves `n` bytes from an address in the slot of one task to an address in the slot of another, or
  * in its own. Tasks are told by their handles, and an address may lie anywhere in a block. Whether a transfer uses the
- * blocks is not looked at. In this order: VF_NO_TASK where a task is not live, VF_BAD_RANGE where either range does not
- * lie whole in one live block, or where the two share a byte. */
+ * blocks is not looked at: the bytes of a buffer that fetches may be overwritten. vf_desk_transfer_to asks for a place
+ * that was opened. In this order: VF_NO_TASK where a task is not live, VF_BAD_RANGE where either range does not lie
+ * whole in one live block, or where the two share a byte. */
 uint32_t vf_desk_transfer(struct vf_desk *desk, uint32_t from, uint32_t address, uint32_t to, uint32_t address2,
                           uint32_t n);
 

@@ -3,8 +3,9 @@
  * desk of vervainfile. Compile wimp.c and oserror.c with the program.
  *
  * A task that is started here has code of its own: the program takes its messages and answers them. Beside such tasks
- * the same desk may have others, which it plays itself (vf_desk_task). A task's memory is its slot: its blocks are
- * claimed and written by vf_desk_claim, vf_desk_write and the like, and an address is one in that slot.
+ * the same desk may have others, which it plays itself (vf_desk_task). A task's memory is its slot: its blocks are made
+ * by vf_desk_alloc, vf_desk_claim and the like, its bytes are written by vf_desk_write_at and read by vf_desk_read, and
+ * an address is one in that slot. These calls take the task's name (wimp_name).
  *
  * Which task calls is said by its handle, the first argument. A call answers null where it was done, else an error, and
  * has changed nothing then: VF_NULL for a null pointer, VF_NO_TASK where the handle is no task's that was started here,
@@ -52,7 +53,8 @@ os_error *wimp_send_message(wimp_t task, int event, struct vf_message *block, wi
 
 /* Wimp_TransferBlock: moves bytes from an address of one task to an address that another opened. One that the desk
  * plays opens the buffer of a transfer that fetches from this task; another task opens what its RAMFetch names, while
- * this task holds that message. VF_BAD_RANGE, VF_NO_TASK. */
+ * this task holds that message. A RAMFetch names addresses, not a block: where the other task has released its block
+ * since and claimed another one there, the bytes go into that one. VF_BAD_RANGE, VF_NO_TASK. */
 os_error *wimp_transfer_block(wimp_t from, uint32_t address, wimp_t to, uint32_t address2, int size);
 
 #ifdef __cplusplus
