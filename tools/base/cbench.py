@@ -16,6 +16,8 @@ DESK, WRAPPED, PROGRAM = "desk_bench", ["memcpy", "memset"], "dist/vervainfile"
 # Instructions are counted over as many rounds of a call, beyond those of half as many.
 CALLGRIND = ["valgrind", "--tool=callgrind", "--callgrind-out-file=/dev/null"]
 ROUNDS = 2000
+# Keeps the C library from string instructions, which count once for each byte.
+TUNED = {"GLIBC_TUNABLES": "glibc.cpu.hwcaps=-ERMS,-FSRM"}
 COLLECTED = re.compile(r"Collected : (\d+)")
 
 
@@ -28,7 +30,8 @@ def built(suite, name, sources, flags=()):
 
 def instructions(words):
     """How many instructions a command takes, as callgrind counts them."""
-    ran = subprocess.run([*CALLGRIND, *words], stdout=subprocess.DEVNULL, stderr=subprocess.PIPE, text=True, check=True)
+    ran = subprocess.run([*CALLGRIND, *words], stdout=subprocess.DEVNULL, stderr=subprocess.PIPE, text=True, check=True,
+                         env={**os.environ, **TUNED})
     return int(COLLECTED.search(ran.stderr)[1])
 
 
