@@ -118,8 +118,8 @@ pub record FillsBuffer (sender : Task) (h : ℕ) (before now : Option Task) (sai
       now ≡ Some (record receiver { slot = with_heap_bytes buffer 0 (take n (drop out.count source)) receiver.slot })
   pub answered : sent_in said ≡ Some n
 
--- The same of a recipient with code of its own, whose fetch names a range of at most room bytes that lies whole in one of
--- its blocks: nothing of it is changed but the first n bytes of that range.
+-- The same of a recipient with code of its own, and a range of room bytes that lies whole in one of its blocks: nothing of
+-- it is changed but the first n bytes of that range. That its fetch names the range isn't said.
 pub record FillsRange (sender : Task) (h : ℕ) (before now : Option Task) (said : Reply) : Type 0 where
   pub receiver : Task
   pub was : before ≡ Some receiver
@@ -144,7 +144,7 @@ pub record FillsRange (sender : Task) (h : ℕ) (before now : Option Task) (said
 abbrev pub Fills : Task → ℕ → Option Task → Option Task → Reply → Type 0
 Fills sender h before now said = FillsBuffer sender h before now said ⊎ FillsRange sender h before now said
 
--- a poll leaves another task as it was, or fills one buffer of it, or a range that it named
+-- a poll leaves another task as it was, or fills one buffer of it, or a range of it
 abbrev pub PollsFill : Desk → Type 0
 PollsFill d =
     (name : List ℕ) (sender : Task) (h : ℕ) → find (has_name name) d.tasks ≡ Some sender → sender.handle ≢ h →

@@ -50,8 +50,8 @@ renamed_scrap f file = record file { bytes = map f file.bytes }
 abbrev pub renamed_files : (ℕ → ℕ) → FileList → FileList
 renamed_files f files = map (λ file. (file.0, map f file.1)) files
 
--- A desk with the bytes of all slots, of the scrap file and of the files renamed. The module area's stay: no command puts
--- bytes there, and none shows them.
+-- A desk with the bytes of all slots, of the scrap file and of the files renamed. The module area's stay: messages
+-- alone have bytes there, and none of these comes from a slot or a file.
 abbrev pub renamed : (ℕ → ℕ) → Desk → Desk
 renamed f d = record d {
   tasks = map (renamed_task f) d.tasks;

@@ -6,7 +6,7 @@ ghost use Rattle.rh_laws.specs.Frame.{KeepsBlocks, LeavesOthers, MovesFit, Polls
 
 /// A command by which no task polls leaves every task but its own as it was; a transfer moves bytes to a place that the
 /// other task opened. After any commands a poll changes of another task at most the first bytes of one buffer, which
-/// that task holds for a transfer from the one that polls, or of a range that it named, where it has code of its own.
+/// that task holds for a transfer from the one that polls, or of a range in a block, where it has code of its own.
 /// No flex block changes but by its own task's commands and polls, or where bytes are moved so. What a task with code
 /// of its own sends, answers and spools changes no slot and no record, and its polls change no task. It changes another
 /// task by moving bytes alone, to a place that this one opened to it.
