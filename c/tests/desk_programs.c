@@ -399,6 +399,24 @@ static void a_fetch_of_before(void)
     DOES(vf_desk_close(&desk));
 }
 
+/* A fetch names addresses: bytes that are moved to them go into the block that stands there by then. */
+static void a_block_claimed_anew(void)
+{
+    open_desk(1);
+    put_text(R, 0, "abcd");
+    TELLS(FIRST_HEAP, vf_desk_claim(&desk, Q, 4, &number));
+    SENDS(1, Q, RECORDED, 3, 0, RAM_FETCH, buffer_words(FIRST_HEAP, 4));
+    TAKES(R, RECORDED, 4, 1, 0, RAM_FETCH, 8);
+    DOES(vf_desk_release(&desk, Q, FIRST_HEAP));
+    REFUSES(VF_BAD_RANGE, vf_desk_transfer_to(&desk, R, FIRST_FLEX, 4, FIRST_HEAP, 4));
+    TELLS(FIRST_HEAP, vf_desk_claim(&desk, Q, 4, &number));
+    DOES(vf_desk_write_at(&desk, Q, FIRST_HEAP, (const uint8_t *)"mine", 4));
+    DOES(vf_desk_transfer_to(&desk, R, FIRST_FLEX, 4, FIRST_HEAP, 4));
+    DOES(vf_desk_read(&desk, Q, FIRST_HEAP, 0, data, 4, &number));
+    EXPECT(memcmp(data, "abcd", 4) == 0);
+    DOES(vf_desk_close(&desk));
+}
+
 /* ---- what runs out */
 
 /* 256 messages of a task to itself leave no room for others; its end gives it back. */
@@ -419,6 +437,20 @@ static void a_flood(void)
     DOES(vf_desk_kill(&desk, R));
     TELLS(257, vf_desk_save(&desk, A, 0, B, VF_TEXT("doc"), &number));
     POLLS(B, VF_DID_FETCH, 0, 258);
+    DOES(vf_desk_close(&desk));
+}
+
+/* What a task has sent to another one stays when it ends, until that one polls. */
+static void a_flood_that_stays(void)
+{
+    open_desk(1);
+    put_text(A, 0, "abc");
+    for (uint32_t i = 1; i <= 256; i++)
+        SENDS(i, R, USER, 2, 0, 9, 0);
+    DOES(vf_desk_kill(&desk, R));
+    REFUSES(VF_QUEUE_FULL, vf_desk_save(&desk, A, 0, B, VF_TEXT("doc"), &number));
+    POLLS(B, VF_DID_NOTHING, 0, 0);
+    TELLS(257, vf_desk_save(&desk, A, 0, B, VF_TEXT("doc"), &number));
     DOES(vf_desk_close(&desk));
 }
 
@@ -449,7 +481,9 @@ int main(void)
     DOES(vf_desk_close(&desk));
     a_third_task_forges();
     a_fetch_of_before();
+    a_block_claimed_anew();
     a_flood();
+    a_flood_that_stays();
     the_last_ref();
     return ended("desk_programs");
 }
