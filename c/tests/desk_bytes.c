@@ -169,6 +169,21 @@ static void moves(void)
     reads(FIRST_FLEX, 0, "hellhellorl!", 12, 12);
 }
 
+/* A transfer by any two tasks asks for nobody's leave: it overwrites the buffer by which a file comes in. */
+static void moves_over_a_buffer(void)
+{
+    struct vf_event event;
+    DOES(vf_desk_save(&desk, A, 0, B, VF_TEXT("doc"), &number));
+    DOES(vf_desk_poll(&desk, B, &event));
+    DOES(vf_desk_poll(&desk, A, &event));
+    EXPECT(event.did == VF_DID_SEND && event.count == 12);
+    DOES(vf_desk_transfer(&desk, 1, FIRST_FLEX + 8, 2, FIRST_HEAP, 4));
+    DOES(vf_desk_poll(&desk, B, &event));
+    EXPECT(event.did == VF_DID_TAKE && event.count == 12);
+    TELLS(12, vf_desk_show_at(&desk, B, 2, 0, bytes, 12, &number));
+    EXPECT(memcmp(bytes, "orl!hellorl!", 12) == 0);
+}
+
 /* A block over more than two pages, in any two parts. */
 static void long_blocks(void)
 {
@@ -222,6 +237,7 @@ int main(void)
     module_area();
     transfers();
     moves();
+    moves_over_a_buffer();
     long_blocks();
     DOES(vf_desk_close(&desk));
     return ended("desk_bytes");
