@@ -12,6 +12,8 @@ import kit
 
 WRONG = "wrong"
 ENDING = ".edit"
+# The file beside the edits that says where each was refused.
+TABLE = "verdicts"
 TELLS = "# "
 # How a constant, a type or a definition begins: its word and its name.
 DECLARED = re.compile(
@@ -131,15 +133,19 @@ def functions_of(folder):
 
 
 def names_of(crate):
-    """The files in the crate's folder of edits."""
+    """The files in the crate's folder of edits, without the table of their verdicts."""
     folder = f"{crate.folder}/{WRONG}"
-    return sorted(os.listdir(folder)) if os.path.isdir(folder) else []
+    return sorted(it for it in os.listdir(folder) if it != TABLE) if os.path.isdir(folder) else []
 
 
-def read_edits(crate):
-    """Reads the crate's edits, and gives (the edits, why each other one can't be applied)."""
+def read_edits(crate, functions=None):
+    """Reads the crate's edits, over its functions if these are known.
+
+    Gives (the edits, why each other one can't be applied).
+    """
     names = names_of(crate)
-    functions = functions_of(crate.folder) if names else []
+    if functions is None:
+        functions = functions_of(crate.folder) if names else []
     edits, bad = [], []
     for name in names:
         try:

@@ -1,19 +1,15 @@
 """What an earlier run on this machine has reached, kept under a sum of all that it depends on.
 
-A sum is of the kit's line, of the tools that judge, of all sources of a crate, and of the statements of the libraries
-below it: a body of a function there, and the proof of one, are read by no crate above. A file of the folder that was
-kept is as whole as it was when it was written: it is put in its place once all of it is there.
+A file of the folder that was kept is as whole as it was when it was written: it is put in its place once all of it is
+there.
 """
 
-import collections
 import contextlib
-import functools
 import hashlib
 import os
 import shutil
 import tempfile
 
-import edit as edits_of
 import kit
 
 # Where things are kept: beside what the kit keeps, or where this word of the environment says.
@@ -22,15 +18,13 @@ FOLDER = f"{kit.KIT}-verdicts"
 TOOLS = os.path.dirname(os.path.realpath(__file__))
 # How many things of one name are kept: those of the last sums.
 MOST = 8
-# The proofs of functions, which no crate above reads.
-PROOFS_OF_FUNCTIONS = ("Answers.antt", "Invariants.antt", "Proof.antt")
 
 
 class Sum:
     """A sum of parts, each with its name and its length."""
 
-    def __init__(self):
-        self.sum = hashlib.sha256()
+    def __init__(self, begun=None):
+        self.sum = begun.sum.copy() if begun else hashlib.sha256()
 
     def add(self, name, content):
         self.sum.update(f"{name} {len(content)}\n".encode())
@@ -58,48 +52,12 @@ def begun(crate, judges):
     return total.add_files(TOOLS, [f"{TOOLS}/{it}.py" for it in sorted({"kept", "kit", *judges})])
 
 
-def of_verdicts(crate, judges):
-    """The sum under which verdicts on a crate's edits are kept."""
-    total = begun(crate, judges)
-    total.add_files(crate.folder, [*kit.files_of(crate.folder), *_edits_in(crate)])
-    for it in crate.below():
-        total.add(it.name, statements(it.folder).encode())
-    return total.text()
-
-
 def of_code(crate, judges):
     """The sum under which what is compiled of a crate and all libraries below it is kept."""
     total = begun(crate, judges)
     for it in [*crate.below(), crate]:
         total.add_files(it.folder, kit.files_of(it.folder))
     return total.text()
-
-
-def _edits_in(crate):
-    return [f"{crate.folder}/{edits_of.WRONG}/{it}" for it in edits_of.names_of(crate)]
-
-
-@functools.cache
-def statements(library):
-    """A sum of what crates above can read of the library in a folder: all but functions' bodies and proofs of these."""
-    total = Sum()
-    bodies = collections.defaultdict(list)
-    for it in edits_of.functions_of(library):
-        bodies[it.file].append((it.opens, it.end))
-    for path in kit.files_of(library):
-        if os.path.basename(path) not in PROOFS_OF_FUNCTIONS:
-            name = os.path.relpath(path, library)
-            total.add(name, _without(_bytes_of(path), bodies[name]))
-    return total.text()
-
-
-def _without(content, ranges):
-    """These bytes without those of the ranges, of which none lies in another but whole."""
-    kept, at = [], 0
-    for start, end in sorted(ranges):
-        kept.append(content[at:start])
-        at = max(at, end)
-    return b"".join([*kept, content[at:]])
 
 
 def folder():

@@ -1,32 +1,15 @@
-"""The trial of wrong bodies: group by group, crate beside crate, with a line for each edit.
+"""The trial of a crate's wrong bodies: group by group, with a verdict on each edit."""
 
-The verdicts on a crate whose edits were all refused are kept on this machine (`kept`), and aren't reached again.
-"""
-
-import re
-import sys
 import tempfile
-import threading
 
 import edit as edits_of
-import kept
-import kit
-import libraries
 import spared
 import timed
 import twins
 from said import Said
 
-PRINTING = threading.Lock()
-# The tools that judge: verdicts are kept under a sum of them too.
-JUDGES = ("edit", "heads", "libraries", "said", "spared", "timed", "trial", "twins")
-ANEW = "--anew"
-DEAREST = "--dearest"
-# How many of the dearest edits are told.
-MOST_TOLD = 20
-# How a verdict begins where an edit was refused, and the line that is kept of it: with all goals, and the seconds.
+# How a verdict begins where an edit was refused.
 REFUSED = "refused at "
-KEPT = re.compile(rf"(.+): {REFUSED}(\S.*) in ([\d.]+) s")
 
 
 class Verdict:
@@ -174,126 +157,10 @@ def goals_of(said, edits):
     return [goal for it in functions for symbol in said.symbols(it) for goal in said.goals(symbol)]
 
 
-class Count:
-    """How many edits of a crate there are, which weren't refused at goals of their own, and whether that was kept."""
-
-    def __init__(self, edits, failed=(), is_kept=False):
-        self.edits, self.failed, self.is_kept = edits, failed, is_kept
-
-
-def tried(crate, jobs):
-    """Tries all edits of the crate, prints their lines, and keeps the verdicts where each was refused."""
-    total = kept.of_verdicts(crate, JUDGES)
-    edits, bad = edits_of.read_edits(crate)
+def tried(crate, edits, jobs):
+    """The verdicts on these edits of the crate in the order of their names; how many checks there were, and seconds."""
     with tempfile.TemporaryDirectory(prefix="wrong-bodies-") as folder:
         laid, edits = twins.lay_out(crate, edits, f"{folder}/crate")
         trial = Trial(laid, f"{folder}/kept", jobs)
         verdicts = sorted(trial.judge_all(edits_of.grouped(edits)), key=lambda it: it.edit.name)
-    lines = [f"{crate.name}/{it}" for it in bad]
-    for it in verdicts:
-        lines += [f"{crate.name}/{it.edit.name}: {it.text}", *(f"    {line}" for line in it.lines)]
-    lines.append(f"{crate.name}: {trial.checks} check{'s' * (trial.checks != 1)}, {trial.spent:.0f} s of a processor")
-    with PRINTING:
-        print("\n".join(lines), flush=True)
-    failed = [it.partition(":")[0] for it in bad] + [it.edit.name for it in verdicts if not it.is_well]
-    count = Count(len(bad) + len(verdicts), [f"{crate.name}/{it}" for it in failed])
-    # A crate that was changed while its edits were tried has another sum by now.
-    if not failed and total == kept.of_verdicts(crate, JUDGES):
-        kept.keep_lines(crate.name, total, [*map(kept_line, verdicts), last_line(count.edits)])
-    return count
-
-
-def kept_line(verdict):
-    """The line that is kept of a verdict."""
-    return f"{verdict.edit.name}: {REFUSED}{' '.join(verdict.goals)} in {verdict.seconds:.1f} s"
-
-
-def kept_of(crate):
-    """What is kept of the crate as it is: each edit with its goals and seconds, or nothing unless it is whole."""
-    lines = kept.lines_of(crate.name, kept.of_verdicts(crate, JUDGES)) or [""]
-    names = sorted(it.removesuffix(edits_of.ENDING) for it in edits_of.names_of(crate))
-    told = [it.groups() for it in map(KEPT.fullmatch, lines[:-1]) if it]
-    is_whole = [name for name, *_ in told] == names and lines[-1] == last_line(len(names))
-    return [(name, goals.split(), float(seconds)) for name, goals, seconds in told] if is_whole else []
-
-
-def recalled(crate):
-    """The count of verdicts that are kept of the crate as it is, or None."""
-    found = kept_of(crate)
-    return Count(len(found), is_kept=True) if found else None
-
-
-def tell_dearest(crates):
-    """Tells the edits whose functions took the most seconds, of all crates whose verdicts are kept."""
-    told = [(seconds, crate.name, name, goals) for crate in crates for name, goals, seconds in kept_of(crate)]
-    for seconds, crate, name, goals in sorted(told, reverse=True)[:MOST_TOLD]:
-        print(f"{seconds:6.1f} s {crate}/{name}: {' '.join(goals)}")
-    print(f"{sum(seconds for seconds, *_ in told):.0f} seconds in the functions of {len(told)} kept verdicts")
-    return 0
-
-
-def last_line(count):
-    """The last line of what is kept, by which a whole list of verdicts is known."""
-    return f"{count} verdicts"
-
-
-def built(library, jobs):
-    """Builds a library, and tells what the prover said where it isn't proved; gives whether it is."""
-    with tempfile.TemporaryFile("w+", errors="replace") as log:
-        if libraries.build(library, jobs, log):
-            return True
-        log.seek(0)
-        print(log.read(), end="", file=sys.stderr)
-    return False
-
-
-def tasks_of(crates):
-    """What is to be run: the libraries that are not there, and each crate's trial over those below it."""
-    left = libraries.unbuilt(libraries.below(crates))
-    tasks = libraries.tasks(left, built)
-    for it in crates:
-        waits = [(dep.name, "library") for dep in it.below() if dep in left]
-        call = lambda given, jobs, it=it, waits=waits: tried(it, jobs) if all(given[key] for key in waits) else None
-        tasks[it.name, "wrong"] = (waits, it.count(rb"\n"), kit.need(it), call)
-    return tasks
-
-
-def main(top, words):
-    """Tries the edits of the crates with these names, or of all, and gives the exit status."""
-    names = [it for it in words if it not in (ANEW, DEAREST)]
-    crates = kit.crates_of(top)
-    unknown = set(names) - {it.name for it in crates}
-    if unknown:
-        print(f"wrong-bodies: no such crate: {', '.join(sorted(unknown))}", file=sys.stderr)
-        return 2
-    chosen = [it for it in crates if edits_of.names_of(it) and (not names or it.name in names)]
-    if DEAREST in words:
-        return tell_dearest(chosen)
-    counts = {} if ANEW in words else {it: count for it in chosen if (count := recalled(it))}
-    left = [it for it in chosen if it not in counts]
-    for it in counts:
-        print(f"{it.name}: {counts[it].edits} verdicts kept", flush=True)
-    held = kit.lock([*libraries.below(left), *left])
-    given = kit.in_lanes(tasks_of(left))
-    del held
-    counts.update((it, given[it.name, "wrong"]) for it in left)
-    for it in (it for it in left if not counts[it]):
-        print(f"{it.name}: a library below it is not proved, and no edit was tried")
-    if well := [it for it in left if counts[it] and not counts[it].failed]:
-        tell_dearest(well)
-    return summed(list(counts.values()))
-
-
-def summed(counts):
-    """Prints what came of all, and gives the exit status: 0 only where there are edits and each was refused.
-
-    What failed is named once more at the end, where a reader of the last lines sees it.
-    """
-    known = [it for it in counts if it]
-    edits, failed = sum(it.edits for it in known), [name for it in known for name in it.failed]
-    recalled = sum(it.edits for it in known if it.is_kept)
-    for it in failed:
-        print(f"not refused: {it}")
-    well = edits - len(failed)
-    print(f"{edits} wrong bodies, {well} refused at goals of their own; {edits - recalled} tried, {recalled} kept")
-    return 0 if edits and not failed and None not in counts else 1
+    return verdicts, trial.checks, trial.spent
