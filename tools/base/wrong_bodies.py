@@ -150,9 +150,9 @@ def tasks_of(cases, writes):
 
 def try_all(cases, writes):
     """Tries what is left of all cases, and gives those whose libraries aren't proved."""
-    held = kit.lock([*libraries.below([it.crate for it in cases]), *(it.crate for it in cases)])
-    given = kit.in_lanes(tasks_of(cases, writes))
-    del held
+    crates = [it.crate for it in cases]
+    with libraries.locked([*libraries.below(crates), *crates]):
+        given = kit.in_lanes(tasks_of(cases, writes))
     return [it for it in cases if not given[it.crate.name, "wrong"]]
 
 
