@@ -196,10 +196,11 @@ def summed(cases):
     What failed is named once more at the end, where a reader of the last lines sees it.
     """
     faults = [it for case in cases for it in case.faults_told()]
+    if due := {case.crate.name: len(case.due()) for case in cases if case.due()}:
+        names = " ".join(due)
+        print(f"{sum(due.values())} refused edits have no line in their table: bin/wrong-bodies {WRITE} {names}")
     for it in faults:
         print(it)
-    if due := {case.crate.name: len(case.due()) for case in cases if case.due()}:
-        print(f"{sum(due.values())} of them have no line in their table: bin/wrong-bodies {WRITE} {' '.join(due)}")
     counts = [
         f"{sum(len(it.edits) + len(it.bad) for it in cases)} wrong bodies",
         f"{sum(len(it.refused()) for it in cases)} refused at goals of their own; "
