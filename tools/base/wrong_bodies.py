@@ -46,7 +46,7 @@ class Case:
         """Leaves to be tried what isn't kept, and has no line in the table or is in the sample; or all."""
         if is_anew:
             self.kept = {}
-        known = {*self.kept, *(name for name in self.lines if self.path(name) not in sampled)}
+        known = {*self.kept, *(name for name in self.lines if (self.crate.name, name) not in sampled)}
         self.left = [it for it in self.edits if is_anew or it.name not in known]
 
     def seen(self):
@@ -175,8 +175,8 @@ def main(top, words):
     cases = [Case(it) for it in crates if edits_of.names_of(it) and (not names or it.name in names)]
     if DEAREST in words:
         return tell_dearest(cases)
-    known = [case.path(name) for case in cases for name in case.lines]
-    sampled = set() if WRITE in words else sample.chosen(sample.seed_of(top, crates), known)
+    lines = {it.crate.name: list(it.lines) for it in cases if it.lines}
+    sampled = set() if WRITE in words else sample.chosen(sample.seed_of(top, crates), lines)
     for it in cases:
         it.leave(ANEW in words, sampled)
         it.begin()
