@@ -100,8 +100,14 @@ def _name_a_home(named, functions):
 
 
 def _without(rows, ranges):
-    """The tokens that begin in none of these ranges of bytes."""
-    return [it for it in rows if not any(start <= it[0] < end for start, end in ranges)]
+    """The tokens, in their order, that begin in none of these ranges of bytes."""
+    kept_rows, left = [], sorted(ranges, reverse=True)
+    for it in rows:
+        while left and left[-1][1] <= it[0]:
+            left.pop()
+        if not left or it[0] < left[-1][0]:
+            kept_rows.append(it)
+    return kept_rows
 
 
 def _sum_of(read):

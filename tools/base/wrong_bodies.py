@@ -187,7 +187,8 @@ def main(top, words):
         print(f"{it.crate.name}: a library below it is not proved, and no edit was tried")
     if any(it.tried for it in cases):
         tell_dearest([it for it in cases if it.tried])
-    return summed(cases) if not unproved else max(summed(cases), 1)
+    status = summed(cases)
+    return 1 if unproved else status
 
 
 def summed(cases):
