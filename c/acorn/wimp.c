@@ -1,6 +1,7 @@
 /*
  * wimp.c: tasks with code of their own on a desk. Their names are kept here by their handles, since the desk's calls
- * take names; and the ref of the message that each took last, which an acknowledgement has to name.
+ * take names; and the ref of the message that each took last, which an acknowledgement has to name. A task may end
+ * without these calls, and another one may take its name: each look-up asks the desk whose name it is.
  */
 #include "wimp.h"
 
@@ -24,12 +25,33 @@ void wimp_use_desk(struct vf_desk *used)
     memset(tasks, 0, sizeof tasks);
 }
 
-/* The task with a handle; with 0 a place for one more. */
+/* Whether the task that was kept here lives: the desk has its name, with its handle. */
+static bool is_live(const struct known *it)
+{
+    struct vf_record none;
+    uint32_t handle;
+    size_t outs, ins;
+    return it->task &&
+           vf_desk_status(desk, VF_TEXT(it->name), &handle, &none, 0, &outs, &none, 0, &ins) == VF_OK &&
+           handle == it->task;
+}
+
+/* The live task with a handle; null where there is none, and for the handle 0. */
 static struct known *find(wimp_t task)
 {
     int i;
     for (i = 0; i < MOST_TASKS; i++)
-        if (tasks[i].task == task)
+        if (tasks[i].task == task && is_live(&tasks[i]))
+            return &tasks[i];
+    return NULL;
+}
+
+/* A place for one more task: that of a task which has ended counts; null where as many live as a desk may have. */
+static struct known *place(void)
+{
+    int i;
+    for (i = 0; i < MOST_TASKS; i++)
+        if (!is_live(&tasks[i]))
             return &tasks[i];
     return NULL;
 }
@@ -49,14 +71,14 @@ static void set_word(struct vf_message *block, int at, uint32_t n)
 
 os_error *wimp_initialise(const char *name, wimp_t *task)
 {
-    struct known *it = find(0);
+    struct known *it;
     uint32_t status;
     if (!name || !task || !desk)
         return os_error_of(VF_NULL);
-    if (!it)
-        return os_error_of(VF_TOO_MANY_TASKS);
+    /* With no place, 32 of these tasks live, and the desk refuses one more. */
+    it = place();
     status = vf_desk_task(desk, VF_TEXT(name), BUFFER, VF_TASK_RAW, task);
-    if (status == VF_OK) {
+    if (status == VF_OK && it) {
         it->task = *task;
         it->last = 0;
         strcpy(it->name, name);
@@ -66,7 +88,7 @@ os_error *wimp_initialise(const char *name, wimp_t *task)
 
 os_error *wimp_close_down(wimp_t task)
 {
-    struct known *it = task ? find(task) : NULL;
+    struct known *it = find(task);
     uint32_t status = it ? vf_desk_kill(desk, VF_TEXT(it->name)) : (uint32_t)VF_NO_TASK;
     if (status == VF_OK)
         memset(it, 0, sizeof *it);
@@ -75,13 +97,13 @@ os_error *wimp_close_down(wimp_t task)
 
 const char *wimp_name(wimp_t task)
 {
-    struct known *it = task ? find(task) : NULL;
+    struct known *it = find(task);
     return it ? it->name : NULL;
 }
 
 os_error *wimp_poll(wimp_t task, struct vf_message *block, int *event)
 {
-    struct known *it = task ? find(task) : NULL;
+    struct known *it = find(task);
     uint32_t status, code;
     if (!block || !event)
         return os_error_of(VF_NULL);
@@ -107,7 +129,7 @@ static os_error *acknowledge(struct known *it, uint32_t ref)
 
 os_error *wimp_send_message(wimp_t task, int event, struct vf_message *block, wimp_t to)
 {
-    struct known *it = task ? find(task) : NULL;
+    struct known *it = find(task);
     uint32_t length, status, my_ref;
     if (!block)
         return os_error_of(VF_NULL);
@@ -129,7 +151,7 @@ os_error *wimp_send_message(wimp_t task, int event, struct vf_message *block, wi
 
 os_error *wimp_transfer_block(wimp_t from, uint32_t address, wimp_t to, uint32_t address2, int size)
 {
-    struct known *it = from ? find(from) : NULL;
+    struct known *it = find(from);
     if (!it)
         return os_error_of(VF_NO_TASK);
     return os_error_of(size < 0 ? (uint32_t)VF_BAD_RANGE

@@ -7,9 +7,10 @@
  * by vf_desk_alloc, vf_desk_claim and the like, its bytes are written by vf_desk_write_at and read by vf_desk_read, and
  * an address is one in that slot. These calls take the task's name (wimp_name).
  *
- * Which task calls is said by its handle, the first argument. A call answers null where it was done, else an error, and
- * has changed nothing then: VF_NULL for a null pointer, VF_NO_TASK where the handle is no task's that was started here,
- * and what is named below.
+ * The first argument of a call is the handle of the task that makes it. A call returns null if it was done. Else it
+ * returns an error, and has changed nothing: VF_NULL for a null pointer, VF_NO_TASK if the handle is not that of a live
+ * task that was started here, and what is named below. No two tasks have the same handle: when a task has ended, by
+ * wimp_close_down or by vf_desk_kill, its handle is no task's, even if another task takes its name.
  */
 #ifndef ACORN_WIMP_H
 #define ACORN_WIMP_H
@@ -27,7 +28,8 @@ typedef uint32_t wimp_t;
 enum { WIMP_NULL_REASON_CODE = 0, WIMP_USER_MESSAGE = 17, WIMP_USER_MESSAGE_RECORDED = 18 };
 enum { WIMP_USER_MESSAGE_ACKNOWLEDGE = 19 };
 
-/* The desk on which tasks are started. It stays the caller's, who opens it before and closes it behind them. */
+/* The desk on which tasks are started. It stays the caller's, who opens it before and closes it after them. All tasks
+ * that were started before are forgotten. Call it again when the desk was closed and opened anew. */
 void wimp_use_desk(struct vf_desk *desk);
 
 /* Wimp_Initialise: starts a task, whose name is a letter and up to 11 letters or digits. VF_BAD_ARGUMENT,
@@ -37,11 +39,13 @@ os_error *wimp_initialise(const char *name, wimp_t *task);
 /* Wimp_CloseDown: ends a task. */
 os_error *wimp_close_down(wimp_t task);
 
-/* The name of a task, by which the desk's own calls tell it; null where none was started here with the handle. */
+/* The name of a task, by which the desk's own calls tell it; null if the handle is not that of a live task that was
+ * started here. The bytes stay until the task has ended and another one is started. */
 const char *wimp_name(wimp_t task);
 
 /* Wimp_Poll: takes the task's next message into the block, and tells the event: 0, 17, 18 or 19. A message of 18 that
- * isn't answered before the task polls again comes back to its sender as 19. */
+ * isn't answered before the task polls again comes back to its sender as 19. Poll these tasks by this call alone: an
+ * acknowledgement goes by the message that it took last. */
 os_error *wimp_poll(wimp_t task, struct vf_message *block, int *event);
 
 /* Wimp_SendMessage: sends the block's message to a task as 17 or 18, and writes the sender's handle and the message's
