@@ -9,14 +9,18 @@
 
 #include <string.h>
 #include <sys/mman.h>
+#include <unistd.h>
 
 enum { MOST_ROOM = 1 << 30, LEAST_ROOM = 1 << 20, ANCHORS = 4096, FEWEST = 64, PAGE = 4096 };
+enum { KEPT = 1 << 20 }; /* so many bytes above the blocks may stay in use */
 
 static uint8_t *memory; /* null before it is mapped */
 static size_t room;
 static struct vf_wide_slot slot;
 static uint32_t slides;           /* how often blocks had moved when the variables were written last */
+static size_t begun;              /* where the bytes begin that malloc asks for; flex's own words end there */
 static size_t given;              /* from here up to the blocks are bytes that malloc hasn't asked for yet */
+static size_t reached;            /* how far the blocks came since pages were given back last */
 static bool budging;
 static flex_ptr anchors[ANCHORS]; /* null where the slot's anchor is free */
 
@@ -29,12 +33,35 @@ static uint32_t find(flex_ptr anchor)
     return number;
 }
 
+/* Whether an anchor lies in memory that is flex's own: all but what malloc asked for, which never moves. */
+static bool is_inside(flex_ptr anchor)
+{
+    const uintptr_t from = (uintptr_t)anchor, to = from + sizeof *anchor, first = (uintptr_t)memory;
+    return from < first + room && first < to && (from < first + begun || first + given < to);
+}
+
+/* Gives the whole pages above the blocks back to the system, once more than KEPT bytes there have been in use. */
+static void give_back(void)
+{
+    if (reached < slot.top)
+        reached = slot.top;
+#ifdef MADV_DONTNEED
+    if (reached - slot.top > KEPT) {
+        const size_t page = (size_t)sysconf(_SC_PAGESIZE), from = (slot.top + page - 1) / page * page;
+        if (from < reached)
+            (void)madvise(memory + from, reached - from, MADV_DONTNEED); /* what the system doesn't take stays */
+        reached = slot.top;
+    }
+#endif
+}
+
 /* Whether a call was done. Then each variable is rewritten, if a block has moved since they were written last. */
 static int is_done(uint32_t status)
 {
     static size_t places[ANCHORS];
     if (status != VF_OK)
         return 0;
+    give_back();
     if (slot.slides == slides)
         return 1;
     slides = slot.slides;
@@ -58,14 +85,16 @@ void flex_init(void)
     slot.anchors = FEWEST;
     memset(anchors, 0, sizeof anchors);
     slides = slot.slides;
-    budging = vf_flex_wide_budge(memory, room, &slot, PAGE, &given) == VF_OK;
+    budging = vf_flex_wide_budge(memory, room, &slot, PAGE, &begun) == VF_OK;
+    given = begun;
+    give_back();
 }
 
 int flex_alloc(flex_ptr anchor, int n)
 {
     size_t place;
     uint32_t number = find(NULL);
-    if (!anchor || find(anchor) < slot.anchors)
+    if (!anchor || is_inside(anchor) || find(anchor) < slot.anchors)
         return 0;
     if (number == slot.anchors && number < ANCHORS)
         slot.anchors++;
@@ -73,6 +102,7 @@ int flex_alloc(flex_ptr anchor, int n)
         return 0;
     anchors[number] = anchor;
     *anchor = memory + place;
+    give_back();
     return 1;
 }
 

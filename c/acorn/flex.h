@@ -3,11 +3,15 @@
  *
  * An anchor is a `void *` of the program's. flex writes the block's address into it, and writes it again whenever the
  * block has moved: go to a block by its anchor alone. A block moves at a call of flex_free, extend, midextend or budge.
- * Other than with Acorn's, new bytes are 0; a refused call changes nothing; there are at most 4,096 blocks; an anchor
- * may not lie in a flex block. A block stands at a multiple of 8, and takes one to eight bytes more than it has.
+ * Other than with Acorn's, new bytes are 0; a refused call changes nothing; there are at most 4,096 blocks. A block
+ * stands at a multiple of 8, and takes one to eight bytes more than it has.
+ *
+ * An anchor may not lie in flex's own memory, that of the blocks above all: it would move with its block. flex_alloc
+ * refuses such an anchor. It may lie in what flex_budge gave, which never moves.
  *
  * All of it lies in 1 GiB of addresses, or in half of that, and so on, where the system doesn't lend as many. They take
- * memory as they are used, and keep it.
+ * memory as they are used. Once more than 1 MiB above the blocks has been in use, its whole pages go back to the system,
+ * where that has madvise() with MADV_DONTNEED.
  */
 #ifndef ACORN_FLEX_H
 #define ACORN_FLEX_H
@@ -21,7 +25,7 @@ typedef void **flex_ptr;
 void flex_init(void);
 
 /* Makes a block of `n` bytes, 0 or more, and writes its address into the anchor. 1 where that was done; 0 where there
- * is no room, or the anchor has a block. */
+ * is no room, the anchor has a block, or lies in flex's own memory. */
 int flex_alloc(flex_ptr anchor, int n);
 
 /* Takes the anchor's block away; the anchor is null then. Does nothing where it has none. */

@@ -213,6 +213,37 @@ static void what_is_below_pushes_blocks_up(void)
     EXPECT(flex_budge(PAGE + 1, &b) == PAGE + 8 && b == a && flex_alloc(&p, 1) == 1 && (uint8_t *)p == first + PAGE);
 }
 
+/* Each call refuses an anchor that lies in flex's own memory, wherever that is, and all stays: the anchor would move, or
+ * be written over. The bytes that flex_budge gave are the program's, and never move. */
+static void anchors_lie_in_no_block(void)
+{
+    static uint8_t bytes[3 * PAGE];
+    void *p = NULL, *q = NULL, *a = NULL;
+    flex_init();
+    EXPECT(flex_alloc(&p, PAGE) == 1 && flex_alloc(&q, sizeof bytes) == 1 && flex_budge(2 * sizeof a, &a) == 2 * sizeof a);
+    uint8_t *const first = p, *const memory = (uint8_t *)a - 8 * MOST;
+    memset(bytes, 0x5a, sizeof bytes);
+    memcpy(q, bytes, sizeof bytes);
+    for (int at = 1 - (int)sizeof a; at < ROOM; at += at < PAGE || at + PAGE > ROOM ? 1 : 61) {
+        flex_ptr anchor = (flex_ptr)((uintptr_t)memory + (uintptr_t)at);
+        if (at >= 8 * MOST && at <= 8 * MOST + (int)sizeof a)
+            continue;
+        EXPECT(!flex_alloc(anchor, 5) && !flex_extend(anchor, 5) && !flex_midextend(anchor, 0, 1) && !flex_size(anchor));
+        flex_free(anchor);
+        EXPECT(p == first && flex_size(&p) == PAGE && flex_size(&q) == sizeof bytes && !memcmp(q, bytes, sizeof bytes));
+    }
+    /* The same just below and just above what flex_budge gave. */
+    EXPECT(!flex_alloc((flex_ptr)((uint8_t *)a - 1), 5) && !flex_alloc((flex_ptr)((uint8_t *)a + 9), 5));
+    flex_ptr low = a, high = low + 1;
+    EXPECT(flex_alloc(high, 5) == 1 && flex_alloc(low, 3) == 1 && flex_size(high) == 5 && flex_size(low) == 3);
+    uint8_t *const five = *high;
+    memcpy(five, "hello", 5);
+    flex_free(&p);
+    EXPECT(!p && (uint8_t *)*high == five - PAGE - 8 && !memcmp(*high, "hello", 5) && *low == (uint8_t *)*high + 8);
+    flex_free(low);
+    EXPECT(!*low && flex_extend(high, 2 * PAGE) == 1 && flex_size(high) == 2 * PAGE && !flex_alloc(high, 1));
+}
+
 /* A sum over sizes and bytes, in the order of the variables. */
 static uint64_t added(uint64_t sum, const uint8_t *bytes, size_t n)
 {
@@ -332,6 +363,7 @@ int main(void)
     blocks_change_in_length();
     room_has_an_end();
     what_is_below_pushes_blocks_up();
+    anchors_lie_in_no_block();
     for (int round = 0; round < ROUNDS; round++)
         compare(CALLS / ROUNDS);
     many_blocks_come_and_go(CALLS / 4);
