@@ -10,8 +10,8 @@
  * refuses such an anchor. It may lie in what flex_budge gave, which never moves.
  *
  * All of it lies in 1 GiB of addresses, or in half of that, and so on, where the system doesn't lend as many. They take
- * memory as they are used. Once more than 1 MiB above the blocks has been in use, its whole pages go back to the system,
- * where that has madvise() with MADV_DONTNEED.
+ * memory as they are used. Once more than 1 MiB above the blocks has been in use, its whole pages go back to the
+ * system, if that has madvise() with MADV_DONTNEED.
  */
 #ifndef ACORN_FLEX_H
 #define ACORN_FLEX_H

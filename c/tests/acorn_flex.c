@@ -213,14 +213,15 @@ static void what_is_below_pushes_blocks_up(void)
     EXPECT(flex_budge(PAGE + 1, &b) == PAGE + 8 && b == a && flex_alloc(&p, 1) == 1 && (uint8_t *)p == first + PAGE);
 }
 
-/* Each call refuses an anchor that lies in flex's own memory, wherever that is, and all stays: the anchor would move, or
- * be written over. The bytes that flex_budge gave are the program's, and never move. */
+/* Each call refuses an anchor anywhere in flex's own memory, and all stays: the anchor would move, or be written over.
+ * The bytes that flex_budge gave are the program's, and never move. */
 static void anchors_lie_in_no_block(void)
 {
     static uint8_t bytes[3 * PAGE];
     void *p = NULL, *q = NULL, *a = NULL;
     flex_init();
-    EXPECT(flex_alloc(&p, PAGE) == 1 && flex_alloc(&q, sizeof bytes) == 1 && flex_budge(2 * sizeof a, &a) == 2 * sizeof a);
+    EXPECT(flex_alloc(&p, PAGE) == 1 && flex_alloc(&q, sizeof bytes) == 1);
+    EXPECT(flex_budge(2 * sizeof a, &a) == 2 * sizeof a);
     uint8_t *const first = p, *const memory = (uint8_t *)a - 8 * MOST;
     memset(bytes, 0x5a, sizeof bytes);
     memcpy(q, bytes, sizeof bytes);
@@ -228,7 +229,8 @@ static void anchors_lie_in_no_block(void)
         flex_ptr anchor = (flex_ptr)((uintptr_t)memory + (uintptr_t)at);
         if (at >= 8 * MOST && at <= 8 * MOST + (int)sizeof a)
             continue;
-        EXPECT(!flex_alloc(anchor, 5) && !flex_extend(anchor, 5) && !flex_midextend(anchor, 0, 1) && !flex_size(anchor));
+        EXPECT(!flex_alloc(anchor, 5) && !flex_extend(anchor, 5) && !flex_midextend(anchor, 0, 1));
+        EXPECT(!flex_size(anchor));
         flex_free(anchor);
         EXPECT(p == first && flex_size(&p) == PAGE && flex_size(&q) == sizeof bytes && !memcmp(q, bytes, sizeof bytes));
     }

@@ -17,9 +17,10 @@
 #define CALLS 6000
 #endif
 
-enum { MEGABYTE = 1000000, LARGE = 200 * MEGABYTE, KEPT = 1 << 20, PIECE = 1 << 16, BLOCKS = 12, MOST_AT_ONCE = 3 << 20 };
+enum { MEGABYTE = 1000000, LARGE = 200 * MEGABYTE, KEPT = 1 << 20 };
+enum { PIECE = 1 << 16, BLOCKS = 12, MOST_AT_ONCE = 3 << 20 };
 /* Of all that the process has in use, so much may differ otherwise. */
-enum { OTHER = 4 * MEGABYTE };
+enum { OTHER = 16 * MEGABYTE };
 
 static void *blocks[BLOCKS], *first;
 static uint8_t *copies[BLOCKS];
@@ -178,7 +179,8 @@ static void blocks_keep_their_bytes(int calls)
             continue;
         for (int i = 0; i < BLOCKS; i++)
             EXPECT(!blocks[i] || !memcmp(blocks[i], copies[i], (size_t)flex_size(&blocks[i])));
-        EXPECT(!takes_pages || pages_in((uint8_t *)end_of_blocks() + 8, (uint8_t *)end_of_blocks() + LARGE / 4) <= KEPT / page);
+        const uint8_t *end = (uint8_t *)end_of_blocks() + 8;
+        EXPECT(!takes_pages || pages_in(end, end + LARGE / 4) <= KEPT / page);
     }
     EXPECT(asked > calls / 100 && given_back > (size_t)asked * KEPT / 2);
     for (int i = 0; i < BLOCKS; i++) {

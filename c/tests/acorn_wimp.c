@@ -10,8 +10,8 @@
 #define CALLS 20000
 #endif
 
-enum { PAGES = 64, MOST_TASKS = 32, HEAD = 20, LONGEST = 256, DEATHS = 100, NAMES = 6, KNOWN = 64, FIRST_BLOCK = 0x9008 };
-enum { MY_REF = 8, YOUR_REF = 12, ACTION = 16 };
+enum { PAGES = 64, MOST_TASKS = 32, DEATHS = 100, NAMES = 6, KNOWN = 64, FIRST_BLOCK = 0x9008 };
+enum { HEAD = 20, LONGEST = 256, MY_REF = 8, YOUR_REF = 12, ACTION = 16 };
 
 static struct vf_desk desk = VF_DESK_CLOSED, twin = VF_DESK_CLOSED;
 static struct vf_message block, before;
@@ -294,7 +294,8 @@ static bool polls(uint32_t i)
 static bool sends(uint32_t i)
 {
     int code = WIMP_USER_MESSAGE + (int)below(2);
-    uint32_t to = below(count + 2), n = HEAD + 4 * below(60), answered = below(3) ? 0 : below(2) ? given[i].held : below(9);
+    uint32_t to = below(count + 2), n = HEAD + 4 * below(60);
+    uint32_t answered = below(3) ? 0 : below(2) ? given[i].held : below(9);
     uint32_t my_ref = 0, status = VF_NO_TASK;
     struct vf_message *it = message(n, answered, below(5) + 20);
     if (given[i].lives)

@@ -36,8 +36,9 @@ def copies(top, folder, target):
         f"lib/lib{NAME}.a": archive.path(built),
         f"lib/{archive.SHARED}": archive.shared(built),
         f"{CMAKE}/{NAME}-config.cmake": f"{top}/{CONFIG}",
-        f"{SHARE}/python/{NAME}.py": f"{top}/python/{NAME}.py",
     }
+    for it in glob.glob(f"{top}/python/{NAME}*.py"):
+        made[f"{SHARE}/python/{os.path.basename(it)}"] = it
     for it in glob.glob(f"{top}/c/acorn/*.[ch]"):
         made[f"{SHARE}/acorn/{os.path.basename(it)}"] = it
     for it in glob.glob(f"{top}/LICENSE*"):

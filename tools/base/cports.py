@@ -2,9 +2,10 @@
 with the archive and with the shared library, by pkg-config and by CMake; and the calls from Python."""
 
 import concurrent.futures
+import ctypes
 import filecmp
 import glob
-import importlib.util
+import importlib
 import os
 import re
 import shutil
@@ -31,7 +32,8 @@ WARNED = ["-Wall", "-Wextra", "-Werror", "-O2"]
 SAID = "c/tests/said.c"
 # What a port adds to its own sources: the shims.
 SHIMS = f"share/{archive.NAME}/acorn"
-PYTHON = f"share/{archive.NAME}/python/{archive.NAME}.py"
+PYTHON = f"share/{archive.NAME}/python"
+MODULE = f"{PYTHON}/{archive.NAME}.py"
 PASSED = re.compile(r"^(\d+) passed and 0 failed\.$", re.MULTILINE)
 # The first program of the page for C, and what it prints.
 PAGE = "docs/C.md"
@@ -50,8 +52,9 @@ target_link_libraries(pages vervainfile::acorn)
 IN_CMAKE = ("letter", "names", "pages")
 # Versions that find_package() must be given, and those that it must not.
 FITS, DIFFERS = ("1", "1.0.0"), ("0.9", "1.0.1", "1.2", "2")
-# The kinds of python's table by the types of C.
-KINDS = {"size_t": "z", "ptrdiff_t": "d", "uint32_t": "u", "int32_t": "i", "bool": "b"}
+# The types of Python's calls by those of C.
+KINDS = {"size_t": ctypes.c_size_t, "ptrdiff_t": ctypes.c_ssize_t, "uint32_t": ctypes.c_uint32,
+         "int32_t": ctypes.c_int32, "bool": ctypes.c_bool}
 NUMBERS = {"DID": "VF_DID_", "STATES": "VF_RECORD_"}
 
 
@@ -106,7 +109,7 @@ def try_install(port):
     port.is_true("other files are installed than are told", sorted(found) == paths)
     port.is_true("a file is lacking", {"include/vervainfile.h", "lib/libvervainfile.a", "lib/libvervainfile.so.1",
                                        "lib/libvervainfile.so", "lib/pkgconfig/vervainfile.pc", f"{SHIMS}/flex.c",
-                                       f"{SHIMS}/osheap.h", PYTHON, "share/doc/vervainfile/LICENSE"} <= set(paths))
+                                       f"{SHIMS}/osheap.h", MODULE, "share/doc/vervainfile/LICENSE"} <= set(paths))
     for name in ("lib/libvervainfile.a", "lib/libvervainfile.so.1", "include/vervainfile.h"):
         one, other = f"{port.root}/{name}", f"{port.folder}/{os.path.basename(name)}"
         port.is_true(f"{name} is another", filecmp.cmp(one, other, shallow=False))
@@ -253,38 +256,44 @@ def try_cmake(port):
             prints(port, f"{name} by CMake", name, [f"{folder}/{name}"])
 
 
-def kinds_of(prototype):
-    """What python's table has to say of a call."""
+def types_of(prototype):
+    """What Python has to hand a call."""
     words = [it for it in header.PROTOTYPE.match(prototype)[3].split(",") if it != "void"]
-    return "".join("p" if "*" in it else KINDS[it.split()[0]] for it in words)
+    return [ctypes.c_void_p if "*" in it else KINDS[it.split()[0]] for it in words]
 
 
-def tables(port):
-    """The tables of the module for Python, as it stands over the installed library."""
+def module_of(port):
+    """The module for Python, as it stands over the installed library."""
     os.environ["VERVAINFILE_LIBRARY"] = f"{port.root}/lib/{archive.SHARED}"
-    spec = importlib.util.spec_from_file_location(archive.NAME, f"{port.root}/{PYTHON}")
-    module = importlib.util.module_from_spec(spec)
-    spec.loader.exec_module(module)
+    sys.path.insert(0, f"{port.root}/{PYTHON}")
+    module = importlib.import_module(archive.NAME)
+    sys.path.remove(f"{port.root}/{PYTHON}")
     del os.environ["VERVAINFILE_LIBRARY"]
     return module
 
 
-def try_python(port):
-    """The examples in the module and in the lessons hold, and its tables are those of the header."""
-    how = {"env": dict(os.environ, PYTHONPATH=os.path.dirname(f"{port.root}/{PYTHON}"), PYTHONDONTWRITEBYTECODE="1",
+def try_examples_in_python(port):
+    """The examples in the module and in the lessons hold, and each argument is looked at."""
+    how = {"env": dict(os.environ, PYTHONPATH=f"{port.root}/{PYTHON}", PYTHONDONTWRITEBYTECODE="1",
                        VERVAINFILE_PROGRAM=port.program)}
-    for path in (f"{port.root}/{PYTHON}", "python/calls.txt", "docs/LESSONS.md"):
-        said = port.ran(path, [sys.executable, "-m", "doctest", "-v", path], **how) or b""
+    doctest = [sys.executable, "-m", "doctest", "-v"]
+    for path, words in ((f"{port.root}/{MODULE}", doctest), ("python/calls.txt", doctest), ("docs/LESSONS.md", doctest),
+                        ("python/arguments.py", [sys.executable])):
+        said = port.ran(path, [*words, path], **how) or b""
         passed = PASSED.search(said.decode())
         port.is_true(f"{path} has examples that hold", passed and int(passed[1]) > 1)
-    module, text = tables(port), header.text_of(port.top)
+
+
+def try_python(port):
+    """The tables of the module for Python are those of the header."""
+    module, text = module_of(port), header.text_of(port.top)
     numbers = dict(header.NUMBER.findall(text))
     statuses = header.SAID.findall(text.partition("};")[0])
     said = {int(numbers[name]): (name.removeprefix("VF_"), text) for name, text in statuses}
     port.is_true("the statuses for Python are others", said == module.STATUSES)
     exported = header.prototypes(header.sources(port.top))
-    wanted = {name: kinds_of(exported[name][0]) for name in module.CALLS.keys() & exported.keys()}
-    wrong = sorted(dict(wanted.items() ^ module.CALLS.items()))
+    given = {name: list(getattr(module.LIBRARY, name).argtypes) for name in module.CALLS}
+    wrong = sorted(it for it in given if it not in exported or given[it] != types_of(exported[it][0]))
     port.is_true(f"the calls for Python differ: {wrong}", not wrong)
     left = {it for it in exported if it.startswith("vf_desk_")} - module.CALLS.keys()
     port.is_true(f"calls on a desk are lacking for Python: {sorted(left)}", not left)
@@ -307,7 +316,8 @@ def run_all(port):
         calls += [pool.submit(try_standard, port, it, standard, compiling)
                   for it in there for standard in STANDARDS[COMPILERS[it]]]
         calls.append(pool.submit(try_page, port, compiling))
-        calls += [pool.submit(it, port) for it in (try_command, try_machines, try_names, try_cmake, try_python)]
+        calls += [pool.submit(it, port) for it in (try_command, try_machines, try_names, try_cmake, try_python,
+                                           try_examples_in_python)]
     for it in calls:
         try:
             it.result()
