@@ -10,37 +10,65 @@ import xml.parsers.expat
 LOADING = {"script", "link", "img", "image", "iframe", "object", "embed", "audio", "video", "source", "base", "form"}
 LOADING_NAMES = {"src", "srcset", "poster", "data", "action", "formaction", "background", "style"}
 URL = re.compile(r"url\(\s*['\"]?([^)'\"]*)")
+# Elements that have a place in a figure, and what they are called.
+SHAPES = {"rect": "rectangle", "path": "way", "text": "text"}
+# A step of a way: to points, to one side, or so far to one side; and the end.
+STEP = re.compile(r"([A-Za-z])([^A-Za-z]*)")
+# The numbers that a step of each kind has.
+NUMBERS = {"M": (2,), "L": (2,), "C": (6,), "H": (1,), "V": (1,), "h": (1,), "v": (1,), "z": (0,)}
 
 
 class Figure:
-    """A figure, or a group that figures use: its width and height, where it has these, and its rectangles."""
+    """A figure, or a group that figures use: its width and height, where it has these, and what is drawn in it."""
 
     def __init__(self, line, size=None):
         self.line, self.size = line, size
-        self.boxes = []
+        self.shapes = []
         self.used = []
 
     def faults(self, groups):
-        """Each rectangle that isn't inside, of the figure's own and of the groups that it uses."""
+        """Each shape that isn't inside, of the figure's own and of the groups that it uses."""
         named = [(name, groups.get(name)) for name in self.used]
-        boxes = self.boxes + [box for _, group in named if group for box in group.boxes]
-        return [f"line {box.line}: a rectangle lies outside the figure of line {self.line}"
-                for box in boxes if self.size and not box.is_inside(*self.size)]
+        shapes = self.shapes + [shape for _, group in named if group for shape in group.shapes]
+        return [f"line {shape.line}: a {shape.name} lies outside the figure of line {self.line}"
+                for shape in shapes if self.size and not shape.is_inside(*self.size)]
 
 
-class Box:
-    """A rectangle, by its corner and size."""
+class Shape:
+    """A rectangle, a way or the place of a text, by its corners; one whose places are no numbers has none."""
 
-    def __init__(self, line, attributes):
-        self.line = line
-        self.sides = [number(attributes.get(name, "0")) for name in ("x", "y", "width", "height")]
+    def __init__(self, line, name, corners):
+        self.line, self.name, self.corners = line, name, corners
 
     def is_inside(self, width, height):
-        """Whether it lies between the edges; one whose sides are no numbers lies nowhere."""
-        if None in self.sides:
-            return False
-        x, y, wide, high = self.sides
-        return min(self.sides) >= 0 and x + wide <= width and y + high <= height
+        """Whether it lies between the edges; one without corners lies nowhere."""
+        return bool(self.corners) and all(0 <= x <= width and 0 <= y <= height for x, y in self.corners)
+
+
+def corners_of(tag, attributes):
+    """The corners of what an element draws: of a way the points through which it goes and to which it bends."""
+    if tag == "path":
+        return way_of(attributes.get("d", ""))
+    x, y, wide, high = (number(attributes.get(it, "0")) for it in ("x", "y", "width", "height"))
+    if None in (x, y, wide, high) or min(wide, high) < 0:
+        return []
+    return [(x, y), (x + wide, y + high)]
+
+
+def way_of(text):
+    """The corners of a way of straight lines and of bows between points."""
+    x, y, corners = 0, 0, []
+    for letter, rest in STEP.findall(text):
+        numbers = [number(it) for it in rest.split()]
+        if None in numbers or len(numbers) not in NUMBERS.get(letter, ()):
+            return []
+        if letter in "Hh":
+            numbers = [numbers[0] + (x if letter == "h" else 0), y]
+        elif letter in "Vv":
+            numbers = [x, numbers[0] + (y if letter == "v" else 0)]
+        corners += zip(numbers[::2], numbers[1::2])
+        x, y = corners[-1] if corners else (x, y)
+    return corners
 
 
 def number(text):
@@ -124,10 +152,10 @@ class Reading:
         self.ids.setdefault(name, self.line)
 
     def draws(self, tag, attributes):
-        """Notes a rectangle, or the use of a group."""
+        """Notes a rectangle, a way or a text, or the use of a group."""
         around = self.open[-1][2] if self.open else None
-        if tag == "rect" and around:
-            around.boxes.append(Box(self.line, attributes))
+        if tag in SHAPES and around:
+            around.shapes.append(Shape(self.line, SHAPES[tag], corners_of(tag, attributes)))
         if tag == "use" and around:
             around.used.append(attributes.get("href", "").lstrip("#"))
 
