@@ -1,5 +1,7 @@
 """Where things stand on sheets: each place worked out by hand from docs/FORMATS.md, and nothing outside its figure."""
 
+import re
+
 import sheets
 from examples import EXAMPLES, words_of
 from limits import LENS, LENSES, SHEET, SHEETS, alloc, claims, put, step_shown
@@ -105,6 +107,16 @@ def test_each_thing_has_its_place(suite):
     for what, words, lines, elements in ALL:
         shown = step_shown(suite, words, lines)
         suite.is_true(f"{what}: {[it for it in elements if it not in shown]}", all(it in shown for it in elements))
+
+
+def test_tints_differ(suite):
+    """Six tints have a colour each in the light and in the dark, for blocks of heaps and for flex blocks."""
+    sheet = step_shown(suite, SHEET, ["areas"])
+    for kind in (r"^ *\.t(\d)", r"^ *\.flex\.t(\d)"):
+        tints = re.findall(kind + r" { fill: (#\w{6}); }$", sheet, re.MULTILINE)
+        suite.is_true(f"tints by {kind}: {tints}", [it for it, _ in tints] == [*"012345"] * 2)
+        colours = [{colour for _, colour in it} for it in (tints[:6], tints[6:])]
+        suite.is_true(f"colours by {kind}: {colours}", [len(it) for it in colours] == [6, 6])
 
 
 def test_nothing_leaves_its_figure(suite):
