@@ -4,15 +4,16 @@ import base64
 import os
 import shutil
 import struct
-import subprocess
 import tempfile
 
 import chromium
+import pace
 
 FIREFOX = ("firefox", "firefox-esr")
 WIDTHS = (1440, 420)
 HEIGHT = 900
-SECONDS = 120
+# The seconds of a processor that Firefox may take for a picture.
+MOST = 120
 # The width and height of A4 in points, rounded down.
 A4 = (594, 841)
 # The most bytes that words with their fonts take on paper, and each figure of memory. What became a picture there would
@@ -68,8 +69,8 @@ def firefox_at(program, page, target, width):
         words = [program, "--headless", "--no-remote", "--profile", folder, f"--window-size={width},{HEIGHT}",
                  "--screenshot", picture, f"file://{os.path.realpath(page)}"]
         try:
-            done = subprocess.run(words, capture_output=True, timeout=SECONDS, check=False)
-        except (OSError, subprocess.TimeoutExpired) as fault:
+            done = pace.run(words, MOST, capture_output=True)
+        except (OSError, pace.Hung) as fault:
             return f"can't be run: {fault}"
     if done.returncode:
         return f"ended with status {done.returncode}"
@@ -103,10 +104,12 @@ class Browsers:
             told = list(seen_by_chromium(tab, target))
             tab.close()
             return told
-        except (chromium.BrowserFault, OSError) as fault:
+        except (chromium.BrowserFault, OSError, pace.TooSlow) as fault:
             if self.chromium:
                 self.chromium.end()
             self.chromium = None
+            if isinstance(fault, pace.TooSlow):
+                raise
             return [f"Chromium: {fault}"]
 
     def pictures(self, page, target):

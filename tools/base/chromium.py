@@ -11,15 +11,18 @@ import subprocess
 import tempfile
 import time
 
+import pace
+
 PROGRAMS = ("chromium", "chromium-browser", "google-chrome", "google-chrome-stable")
 # The numbers of the pipes by which Chromium reads and writes messages.
 READS, WRITES = 3, 4
 # Numbers of files above those.
 FREE_NUMBER = 10
-# So long a browser may take for an answer, as the print of a long page where the machine has other work.
-SECONDS = 240
-# So long a page may take until something holds.
-WAITED = 60
+# The seconds of a processor that a browser may take for an answer, as the print of a long page, and a page until
+# something holds: with all that this process began, from five seconds on.
+MOST, MOST_WAITED = 240, 60
+# The seconds of the clock between two tries whether something holds: at first, and where it hasn't held for long.
+SOON, LATER = 0.01, 0.5
 MODIFIERS = {"Alt": 1, "Control": 2, "Meta": 4, "Shift": 8}
 # Waits until a page is so large and has heard of that, as it has before each frame that it draws.
 IS_SO_LARGE = """new Promise((done) => {
@@ -73,19 +76,25 @@ class Browser:
             self.writer.write(json.dumps(message).encode() + b"\0")
         except BrokenPipeError as fault:
             raise BrowserFault("Chromium has ended") from fault
-        mine, end = self.count, time.monotonic() + SECONDS
+        mine, watch = self.count, pace.Watch(MOST, os.getpid(), is_new=False)
         while mine not in self.answers:
-            self._take(method, end)
+            self._take(method, watch)
         answer = self.answers.pop(mine)
         if "error" in answer:
             raise BrowserFault(f"{method}: {answer['error']['message']}")
         return answer["result"]
 
-    def _take(self, method, end):
-        """Takes what Chromium writes."""
-        left = end - time.monotonic()
-        if left <= 0 or not select.select([self.reader], [], [], left)[0]:
-            raise BrowserFault(f"{method}: no answer")
+    def _take(self, method, watch):
+        """Takes what Chromium writes, or looks whether it is at work."""
+        has_written = select.select([self.reader], [], [], watch.left())[0]
+        try:
+            watch.look()
+        except pace.Hung as why:
+            raise BrowserFault(f"{method}: no answer, {why}") from why
+        except pace.TooSlow as why:
+            raise pace.TooSlow(f"{method}: {why}") from why
+        if not has_written:
+            return
         part = self.reader.read(1 << 16)
         if not part:
             raise BrowserFault("Chromium has ended")
@@ -117,7 +126,7 @@ class Browser:
 
     def close(self):
         self.call("Browser.close")
-        self.process.wait(SECONDS)
+        pace.wait(self.process, MOST)
         self.reader.close()
         self.writer.close()
         self.folder.cleanup()
@@ -173,12 +182,14 @@ class Tab:
                   "the page isn't loaded again")
 
     def wait(self, test, fault):
-        """Waits until a test holds."""
-        end = time.monotonic() + WAITED
+        """Waits until a test holds, for as long as anything is at work."""
+        watch = pace.Watch(MOST_WAITED, os.getpid(), is_new=False)
         while not test():
-            if time.monotonic() > end:
-                raise BrowserFault(fault)
-            time.sleep(0.01)
+            try:
+                watch.look()
+            except pace.Ended as why:
+                raise BrowserFault(f"{fault}: {why}") from why
+            time.sleep(SOON if watch.before is None else LATER)
 
     def value(self, expression):
         """The value of an expression in the page."""

@@ -19,6 +19,8 @@ import cinstall
 import ctests
 import header
 import outcome
+import pace
+import processors
 from targets import OTHERS
 
 PREFIX = "/opt/of-a-port"
@@ -81,7 +83,7 @@ class Port(ctests.Suite):
 
     def fails(self, what, words, **how):
         """Counts a command that must not go well."""
-        ran = subprocess.run(words, capture_output=True, timeout=ctests.LONGEST, cwd=self.top, check=False, **how)
+        ran = pace.run(words, ctests.MOST, capture_output=True, cwd=self.top, **how)
         self.is_true(f"{what} goes well", ran.returncode != 0)
 
 
@@ -308,20 +310,20 @@ def run_all(port):
     try_install(port)
     compiling, linking = flags_of(port)
     there = [it for it in COMPILERS if port.has(it, f"programs by {it}")]
-    with concurrent.futures.ThreadPoolExecutor(os.cpu_count()) as pool:
-        for made in [pool.submit(compile_shim, port, it, path, compiling) for it in there for path in shims(port)]:
+    with concurrent.futures.ThreadPoolExecutor(processors.usable()) as pool:
+        call = lambda *words: pool.submit(port.after, *words)
+        for made in [call(compile_shim, port, it, path, compiling) for it in there for path in shims(port)]:
             made.result()
-        calls = [pool.submit(try_example, port, it, name, compiling, linking)
-                 for it in there for name in examples(port.top)]
-        calls += [pool.submit(try_standard, port, it, standard, compiling)
+        calls = [call(try_example, port, it, name, compiling, linking) for it in there for name in examples(port.top)]
+        calls += [call(try_standard, port, it, standard, compiling)
                   for it in there for standard in STANDARDS[COMPILERS[it]]]
-        calls.append(pool.submit(try_page, port, compiling))
-        calls += [pool.submit(it, port) for it in (try_command, try_machines, try_names, try_cmake, try_python,
-                                           try_examples_in_python)]
+        calls.append(call(try_page, port, compiling))
+        calls += [call(it, port) for it in (try_command, try_machines, try_names, try_cmake, try_python,
+                                            try_examples_in_python)]
     for it in calls:
         try:
             it.result()
-        except (OSError, subprocess.SubprocessError) as why:
+        except (OSError, subprocess.SubprocessError, pace.Hung) as why:
             port.is_true(str(why), False)
 
 
@@ -334,7 +336,7 @@ def test(top, folder, program=None):
         return outcome.NOT_RUN
     with tempfile.TemporaryDirectory(prefix="cports-") as work:
         port = Port(top, os.path.abspath(folder), os.path.abspath(program or f"{top}/dist/{archive.NAME}"), work)
-        run_all(port)
+        port.after(run_all, port)
     for it in [*port.wrong, *port.lacking]:
         print(it)
-    return outcome.told("programs over the installed library", port.tried, len(port.wrong))
+    return outcome.told("programs over the installed library", port.tried, len(port.wrong), port.slow)

@@ -14,9 +14,11 @@ import time
 
 import clib
 import ctests
+import pace
 
 SEED = 17
-LONGEST = 600
+# The seconds of a processor that a program may take.
+MOST = 600
 TOLD = re.compile(rb"malloc_shim: (\d+) claims[^\n]*\n")
 # What stands in for malloc in each column. Nothing does in the first.
 CHECKED = "checked"
@@ -148,8 +150,7 @@ def ran(run, preloaded, folder):
         with open(f"{here}/{run.stdin}", "rb") as stdin:
             words = [installed(run.words[0]), *run.words[1:]]
             before, start = os.times().children_user, time.monotonic()
-            done = subprocess.run(words, stdin=stdin, capture_output=True, cwd=here, env=how, timeout=LONGEST,
-                                  check=False)
+            done = pace.run(words, MOST, stdin=stdin, capture_output=True, cwd=here, env=how)
             seconds = os.times().children_user - before
     told = TOLD.findall(done.stderr)
     errors = TOLD.sub(b"", done.stderr)

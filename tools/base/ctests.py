@@ -13,6 +13,8 @@ import threading
 import archive
 import header
 import outcome
+import pace
+import processors
 from targets import HERE, OTHERS
 
 STRICT = ["-Wall", "-Wextra", "-Werror"]
@@ -26,8 +28,8 @@ WAYS = {
 }
 # The same where another machine is played by an emulator.
 EMULATED = {AS_IT_IS: ["-O2", "-DCALLS=2000"], "checked names": ["-O0", "-DVF_CHECKED", "-DCALLS=1000"]}
-# A run that hangs is ended after so many seconds.
-LONGEST = 120
+# The seconds of a processor that a run may take.
+MOST = 120
 # The test that no call takes memory, the functions that it counts, and where the calls that it makes by a list stand;
 # and the same test of an open desk.
 NO_MEMORY, LISTS, DESK_MEMORY = "c/tests/takes_no_memory.c", "c/tests/expect.h", "c/tests/desk_memory.c"
@@ -41,7 +43,7 @@ class Suite:
     """A folder with the library for a machine, what was tried over it, and what of that was not as it should be."""
 
     def __init__(self, top, folder, work, target=HERE):
-        self.top, self.folder, self.work, self.tried, self.wrong = top, folder, work, 0, []
+        self.top, self.folder, self.work, self.tried, self.wrong, self.slow = top, folder, work, 0, [], []
         self.compiler, self.runner = target.compiler or tuple(archive.compiler()), target.runner
         self.target, self.ways, self.lock = target, EMULATED if target.name else WAYS, threading.Lock()
 
@@ -51,13 +53,15 @@ class Suite:
             self.tried += 1
 
     def ran(self, what, words, **how):
-        """Runs a command, counts it, and gives what it printed, or nothing where it failed."""
+        """Runs a command, counts it, and gives what it printed, or nothing where it failed. One that is too slow raises."""
         self.count()
         try:
-            ran = subprocess.run(words, capture_output=True, timeout=LONGEST, cwd=self.top, check=False, **how)
-        except (OSError, subprocess.TimeoutExpired) as why:
+            ran = pace.run(words, MOST, capture_output=True, cwd=self.top, **how)
+        except (OSError, pace.Hung) as why:
             self.wrong.append(f"{what}: {why}")
             return None
+        except pace.TooSlow as why:
+            raise pace.TooSlow(f"{what}: {why}") from why
         if ran.returncode:
             self.wrong.append(f"{what}: status {ran.returncode}\n{(ran.stdout + ran.stderr).decode(errors='replace')}")
             return None
@@ -82,6 +86,13 @@ class Suite:
             it.write(f'#!/bin/sh\nexec {" ".join(self.runner)} {made} "$@"\n')
         os.chmod(it.name, 0o755)
         return it.name
+
+    def after(self, call, *words):
+        """Calls a test, which what is too slow ends; that is noted."""
+        try:
+            call(*words)
+        except pace.TooSlow as why:
+            self.slow.append(str(why))
 
     def is_true(self, what, holds):
         """Counts something that was looked at."""
@@ -229,11 +240,12 @@ def run_all(suite, others):
     tests = sorted(glob.glob("c/tests/*.c", root_dir=suite.top))
     # The way that costs most goes first.
     ways = list(reversed(suite.ways))
-    with concurrent.futures.ThreadPoolExecutor(os.cpu_count()) as pool:
-        for made in [pool.submit(compile_plain, suite, path, way) for way in ways for path in plain(suite)]:
+    with concurrent.futures.ThreadPoolExecutor(processors.usable()) as pool:
+        plainly = [pool.submit(suite.after, compile_plain, suite, path, way) for way in ways for path in plain(suite)]
+        for made in plainly:
             made.result()
-        calls = [pool.submit(it, suite) for it in others]
-        calls += [pool.submit(try_test, suite, path, way) for way in ways for path in tests]
+        calls = [pool.submit(suite.after, it, suite) for it in others]
+        calls += [pool.submit(suite.after, try_test, suite, path, way) for way in ways for path in tests]
     for it in calls:
         it.result()
     return len(tests)
@@ -250,7 +262,7 @@ def told(suite, others, what):
     for it in suite.wrong:
         print(it)
     what = f"{tests} programs in C in {len(suite.ways)} ways, {what}"
-    return outcome.told(what, suite.tried * bool(tests), len(suite.wrong))
+    return outcome.told(what, suite.tried * bool(tests), len(suite.wrong), suite.slow)
 
 
 def test(top, folder):

@@ -2,13 +2,14 @@
 
 import concurrent.futures
 import dataclasses
-import os
 import signal
 import subprocess
 import sys
 import time
 
 import outcome
+import pace
+import processors
 
 NAME = "vervainfile"
 # How many browsers share the tests of the page, and how many the sheets of the examples.
@@ -16,8 +17,9 @@ SHARES, SHEET_SHARES = 4, 2
 # So many parts more than there are processors run side by side: all browsers begin at once on four, and now and then one
 # waits for a frame.
 MORE = 2
-# A part that hangs is ended after so many seconds.
-LONGEST = 1800
+# The seconds of a processor that a part may take, with all that it runs. The dearest takes a tenth. A part is looked at
+# more rarely than what it runs, so that this has ended by itself before.
+MOST, LOOK = 900, 15
 LEFT_OUT = "left out"
 
 
@@ -85,11 +87,13 @@ def parts_of(top, build, is_dist):
 
 @dataclasses.dataclass
 class Result:
-    """What a part gave: how many tests ran and failed, what it said, and what was left out; and its seconds."""
+    """What a part gave: how many tests ran, failed and were too slow, what it said, and what was left out; and its
+    seconds. It is well where nothing failed."""
 
     part: Part
     tests: int = 0
     failed: int = 0
+    slow: int = 0
     is_well: bool = False
     left_out: tuple = ()
     said: str = ""
@@ -101,24 +105,35 @@ class Result:
             told = f"{self.tests} tests" if self.is_well else f"FAILED, {self.failed} of {self.tests} tests"
         else:
             told = LEFT_OUT if self.is_well else f"FAILED, {LEFT_OUT}"
-        said = "".join(f"  {it}\n" for it in self.said.splitlines()) if not self.is_well else ""
+        if self.is_well and self.slow:
+            told += f", {self.slow} {outcome.TOO_SLOW}"
+        shown = [it for it in self.said.splitlines() if not self.is_well or it.endswith(f": {outcome.TOO_SLOW}")]
+        said = "".join(f"  {it}\n" for it in shown)
         return f"{self.part.name}: {told}, {self.seconds:.0f} s\n{said}"
 
 
 def ran(words):
-    """The status and the text of a command, which is ended with all that it began where it hangs."""
-    with subprocess.Popen(words, stdout=subprocess.PIPE, stderr=subprocess.STDOUT, stdin=subprocess.DEVNULL,
-                          start_new_session=True) as running:
-        try:
-            text = running.communicate(timeout=LONGEST)[0]
-        except subprocess.TimeoutExpired:
-            os.killpg(running.pid, signal.SIGKILL)
-            text = running.communicate()[0] + f"\nended after {LONGEST} seconds\n".encode()
-    return running.returncode, text.decode(errors="replace")
+    """The status and the text of a command. Where it hangs, or takes too much, it is ended, and the text says so."""
+    how = {"stdin": subprocess.DEVNULL, "stdout": subprocess.PIPE, "stderr": subprocess.STDOUT}
+    try:
+        done = pace.run(words, MOST, LOOK, start_new_session=True, **how)
+        return done.returncode, done.stdout.decode(errors="replace")
+    except pace.Ended as why:
+        said = (why.output or b"").decode(errors="replace")
+        if isinstance(why, pace.Hung):
+            return -signal.SIGKILL, f"{said}\n{why}\n"
+        return outcome.SLOW, f"{said}\n{why}: {outcome.TOO_SLOW}\nthe part: 0 tests, 0 failed, 1 {outcome.TOO_SLOW}\n"
+
+
+def is_well(status, tests, failed, slow):
+    """Whether a part that wasn't left out failed nowhere: its status and its last line have to say the same."""
+    if status == outcome.SLOW:
+        return slow > 0 and not failed
+    return status == 0 and tests > 0 and not failed and not slow
 
 
 def result_of(part, is_whole):
-    """Runs a part. It is well where its tests ran and passed, or where it says what the machine lacks.
+    """Runs a part. It is well where its tests ran and none failed, or where it says what the machine lacks.
 
     Of the whole no part may be left out but for want of a browser or an emulator.
     """
@@ -129,10 +144,10 @@ def result_of(part, is_whole):
         status, said = 1, f"{part.words[0]}: {why}\n"
     lines = said.splitlines()
     left_out = tuple(it for it in lines if it.endswith(LEFT_OUT))
-    tests, failed = outcome.read(lines[-1]) or (0, 0) if lines else (0, 0)
-    may_lack = part.may_lack or not is_whole
-    is_well = bool(left_out) and may_lack if status == outcome.NOT_RUN else status == 0 and tests > 0 and not failed
-    return Result(part, tests, failed, is_well, left_out, said, time.monotonic() - start)
+    counts = outcome.read(lines[-1]) or (0, 0, 0) if lines else (0, 0, 0)
+    may_lack = bool(left_out) and (part.may_lack or not is_whole)
+    well = may_lack if status == outcome.NOT_RUN else is_well(status, *counts)
+    return Result(part, *counts, well, left_out, said, time.monotonic() - start)
 
 
 def missing_of(results):
@@ -144,22 +159,38 @@ def missing_of(results):
     return list(dict.fromkeys(found))
 
 
-def run(build, parts, is_whole):
+def last_line(build, results, seconds):
+    """What is told of all parts at the end."""
+    missing, wrong = missing_of(results), sum(not it.is_well for it in results)
+    slow = [it for it in results if it.is_well and it.slow]
+    of_them = f"{wrong} of them FAILED" if wrong else ""
+    if slow:
+        of_them += f", {len(slow)} {outcome.TOO_SLOW}" if wrong else f"{len(slow)} of them {outcome.TOO_SLOW}"
+    parts = f"{len(results)} parts, {of_them}" if of_them else f"{len(results)} parts passed"
+    tests, failed = sum(it.tests for it in results), sum(it.failed for it in results)
+    count = f"{tests} tests, {failed} failed"
+    if slow:
+        count += f", {sum(it.slow for it in slow)} {outcome.TOO_SLOW} ({', '.join(it.part.name for it in slow)})"
+    return f"{build.what}: {parts}; {count}; left out: {', '.join(missing) or 'nothing'}; {seconds:.0f} s"
+
+
+def status_of(results, is_strict):
+    """The exit status: 0 only where tests ran, and none failed; of strict tests, none was too slow either."""
+    is_wrong = not all(it.is_well for it in results) or not sum(it.tests for it in results)
+    return 1 if is_wrong or is_strict and any(it.slow for it in results) else 0
+
+
+def run(build, parts, is_whole, is_strict=False):
     """Runs the parts, tells each as it ends, and gives the exit status.
 
-    Some more run side by side than there are processors, and behind them those that are timed, one by one.
+    Some more run side by side than there are processors, and after them those that are timed, one by one.
     """
     start, results = time.monotonic(), []
     for timed in (False, True):
         wanted = [it for it in parts if it.is_timed == timed]
-        with concurrent.futures.ThreadPoolExecutor(1 if timed else os.cpu_count() + MORE) as pool:
+        with concurrent.futures.ThreadPoolExecutor(1 if timed else processors.usable() + MORE) as pool:
             for it in concurrent.futures.as_completed([pool.submit(result_of, part, is_whole) for part in wanted]):
                 results.append(it.result())
                 print(results[-1].line(), end="", flush=True)
-    missing, wrong = missing_of(results), sum(not it.is_well for it in results)
-    tests, failed = sum(it.tests for it in results), sum(it.failed for it in results)
-    print(f"{build.what}: {len(parts)} parts, {wrong} of them FAILED; " if wrong else
-          f"{build.what}: {len(parts)} parts passed; ", end="")
-    print(f"{tests} tests, {failed} failed; left out: {', '.join(missing) or 'nothing'}; "
-          f"{time.monotonic() - start:.0f} s")
-    return 1 if wrong or not tests else 0
+    print(last_line(build, results, time.monotonic() - start))
+    return status_of(results, is_strict)

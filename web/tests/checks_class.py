@@ -5,6 +5,7 @@ import json
 import re
 
 import native
+import pace
 from bench import TOP, holds, same
 from checks_told import forms_of_docs, refusals_of_docs
 
@@ -710,26 +711,25 @@ WALK = """(() => {
   }
   return count;
 })()"""
-# So many milliseconds of a processor a step may take, on average.
-MOST_OF_STEP = 60
+# So many seconds of a processor a step may take, on average.
+MOST_OF_STEP = 0.06
 
 
-def busy_seconds(page):
-    """How long a processor has worked for the page, whatever else the machine does."""
-    metrics = page.tab.call("Performance.getMetrics")["metrics"]
-    return next(it["value"] for it in metrics if it["name"] == "TaskDuration")
+def work_of_step(page, view, name):
+    """The seconds of a processor that a step of an example takes, on average over all of its steps."""
+    page.look(view)
+    page.load(name)
+    counts = []
+    took = page.work_of(lambda: counts.append(page.value(WALK))) / counts[0]
+    print(f"  {name}, {view}: {counts[0]} steps, each {1000 * took:.0f} ms of a processor")
+    return took
 
 
 def check_quick_steps(bench):
     """A step of a lesson, and of a longer example, is drawn within 60 milliseconds of a processor, in each view."""
     names = ("lessons/small-buffer", "lessons/death", "lessons/sliding", "eight-transfers")
     with bench.page() as page:
-        page.tab.call("Performance.enable", timeDomain="threadTicks")
+        page.count_work()
         for view, name in itertools.product(("picture", "lens"), names):
-            page.look(view)
-            page.load(name)
-            start = busy_seconds(page)
-            count = page.value(WALK)
-            took = 1000 * (busy_seconds(page) - start) / count
-            print(f"  {name}, {view}: {count} steps, each {took:.0f} ms of a processor")
-            holds(1 < took <= MOST_OF_STEP, f"a step of {name} takes {took:.0f} ms as a {view}")
+            took = pace.held(f"a step of {name}, {view}", lambda: work_of_step(page, view, name), MOST_OF_STEP)
+            holds(took > 0.001, f"a step of {name} takes no time as a {view}")

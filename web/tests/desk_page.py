@@ -51,6 +51,21 @@ class DeskPage:
         self.tab.wait(lambda: self.value("!document.querySelector('#desk').hidden"), "the page doesn't begin")
         self.value(TO_SCALE)
 
+    def count_work(self):
+        """Counts from now on the seconds of a processor that the page's thread works, whatever else the machine does."""
+        self.tab.call("Performance.enable", timeDomain="threadTicks")
+
+    def worked(self):
+        """The seconds that were counted so far."""
+        metrics = self.tab.call("Performance.getMetrics")["metrics"]
+        return next(it["value"] for it in metrics if it["name"] == "TaskDuration")
+
+    def work_of(self, act):
+        """The seconds that are counted while something is done."""
+        start = self.worked()
+        act()
+        return self.worked() - start
+
     def close(self):
         self.tab.close()
 
@@ -110,11 +125,11 @@ class DeskPage:
         return self.value(call_of(name, *values))
 
     def drop_bytes(self, name, content, test=None):
-        """Drops a file, and gives the seconds until a test holds, or until it is taken or refused."""
+        """Drops a file, and waits until a test holds, or until it is taken or refused."""
         text = (TESTS / "drop.js").read_text()
         words = f"{json.dumps(name)}, {json.dumps(base64.b64encode(content).decode())}"
         words += f", () => {test}" if test else ""
-        return self.value(f"{text[text.index('(async'):].strip()}({words})")
+        self.value(f"{text[text.index('(async'):].strip()}({words})")
 
     def set_value(self, selector, value):
         """Gives a field a value, and tells the page."""

@@ -3,14 +3,16 @@
 import dataclasses
 import http.server
 import pathlib
-import subprocess
 import tempfile
 import threading
 import urllib.parse
 
+import pace
+
 TOP = pathlib.Path(__file__).resolve().parents[2]
 PROGRAM = TOP / "dist/vervainfile"
-SECONDS = 120
+# The seconds of a processor that the program may take.
+MOST = 120
 
 
 @dataclasses.dataclass
@@ -38,8 +40,8 @@ def done(verb, job):
             words.append(f"{name}={folder}/{name}")
         marked = ["--marked"] if job.is_marked and verb != "run" else []
         lens = ["--lens"] if job.is_lens else []
-        ran = subprocess.run([PROGRAM, verb, "--pages", str(job.pages), *marked, *lens, script, *words],
-                             capture_output=True, timeout=SECONDS)
+        words = ["--pages", str(job.pages), *marked, *lens, script, *words]
+        ran = pace.run([PROGRAM, verb, *words], MOST, capture_output=True)
     return ran.returncode, ran.stdout
 
 
@@ -49,7 +51,7 @@ def checked(content, kind):
         file.write(content)
         file.flush()
         words = ["--slot"] if kind == "slot" else []
-        ran = subprocess.run([PROGRAM, "check", *words, file.name], capture_output=True, timeout=SECONDS)
+        ran = pace.run([PROGRAM, "check", *words, file.name], MOST, capture_output=True)
     return ran.returncode, ran.stdout
 
 
@@ -62,6 +64,16 @@ def unpacked(content):
         files[content[at + 1 : start].decode()] = content[start + 4 : start + 4 + length]
         at = start + 4 + length
     return files
+
+
+def asked(verb, words, content):
+    """The program's exit status and what it writes, for the words and the bytes by which a page asks for it."""
+    if verb == "check":
+        return checked(content, words["kind"])
+    at = int(words["script"])
+    job = Job(content[:at], words.get("name", "script.desk"), int(words["pages"]), unpacked(content[at:]),
+              words["marked"] != "0", words.get("lens") == "1")
+    return done(verb, job)
 
 
 class Handler(http.server.BaseHTTPRequestHandler):
@@ -78,14 +90,12 @@ class Handler(http.server.BaseHTTPRequestHandler):
         address = urllib.parse.urlparse(self.path)
         words = {key: values[0] for key, values in urllib.parse.parse_qs(address.query).items()}
         content = self.rfile.read(int(self.headers["Content-Length"]))
-        if address.path == "/check":
-            status, text = checked(content, words["kind"])
-            self.answer(200, text, status)
+        try:
+            status, text = asked(address.path[1:], words, content)
+        except pace.Ended as why:
+            self.server.ended.append(why)
+            self.answer(500, str(why).encode())
             return
-        at = int(words["script"])
-        job = Job(content[:at], words.get("name", "script.desk"), int(words["pages"]), unpacked(content[at:]),
-                  words["marked"] != "0", words.get("lens") == "1")
-        status, text = done(address.path[1:], job)
         self.answer(200, text, status)
 
     def answer(self, code, content, status=0):
@@ -102,13 +112,19 @@ class Server:
 
     def __init__(self):
         self.server = http.server.ThreadingHTTPServer(("127.0.0.1", 0), Handler)
-        self.server.pages = {}
+        # The pages by their paths, and why the program was ended that a page has asked for.
+        self.server.pages, self.server.ended = {}, []
         threading.Thread(target=self.server.serve_forever, daemon=True).start()
 
     def address(self, path, page):
         """Where a page is found from now on."""
         self.server.pages[path] = page
         return f"http://127.0.0.1:{self.server.server_address[1]}{path}"
+
+    def fault(self):
+        """Why the program was ended that a page has asked for, if it was since this was asked last."""
+        ended = self.server.ended
+        return ended.pop(0) if ended else None
 
     def close(self):
         self.server.shutdown()

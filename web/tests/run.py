@@ -5,6 +5,7 @@ import time
 
 import chromium
 import outcome
+import pace
 from bench import Bench, Wrong
 
 import checks_class
@@ -26,7 +27,7 @@ CHECKS = (checks_replies, checks_use, checks_lines, checks_files, checks_kept, c
           checks_modules, checks_maker, checks_looks, checks_layout, checks_lens, checks_class, checks_explained)
 # So many tests go wrong before the others are given up: each may wait long for a page that doesn't begin.
 MOST_WRONG = 5
-# Tests of how long something takes, which no share has: other work beside them would count.
+# Tests of how much processor time something takes, which no share has: other work beside them makes it more.
 TIMED = ("long_scripts", "quick_steps")
 # How many seconds of a processor a test takes that takes many, where 20 million additions in python3 take 0.98; and what
 # one of the others takes. By these the shares take about as long.
@@ -46,15 +47,14 @@ def checks():
 
 
 def tried(bench, name, check):
-    """Whether a test passes; what is wrong is told."""
+    """Why a test doesn't pass, or None where it does: what is wrong, or what is too slow here."""
     start = time.monotonic()
     try:
         check(bench)
-    except (Wrong, chromium.BrowserFault, StopIteration) as fault:
-        print(f"{name}: {fault}")
-        return False
+    except (Wrong, chromium.BrowserFault, StopIteration, pace.Ended) as fault:
+        return bench.server.fault() or fault
     print(f"{name}: passed, {time.monotonic() - start:.1f} s")
-    return True
+    return None
 
 
 def seconds_of(them):
@@ -77,15 +77,21 @@ def chosen(wanted, share):
     return them if shares == 1 else dealt(them, shares)[number - 1]
 
 
-def passed_of(bench, them):
-    """Whether each test passes. Where many don't, those behind them aren't tried, and count as such that don't."""
-    passed = []
-    for name, check in them:
-        if passed.count(False) == MOST_WRONG:
-            print(f"{name} and what is behind it: not tried, since {MOST_WRONG} tests went wrong")
-            return passed + [False] * (len(them) - len(passed))
-        passed.append(tried(bench, name, check))
-    return passed
+def faults_of(bench, them):
+    """How many tests fail, and what is told of those that are too slow. Where many fail, those after them aren't tried,
+    and count as failed."""
+    failed, slow = 0, []
+    for number, (name, check) in enumerate(them):
+        if failed == MOST_WRONG:
+            print(f"{name} and what comes after it: not tried, since {MOST_WRONG} tests went wrong")
+            return failed + len(them) - number, slow
+        fault = tried(bench, name, check)
+        if isinstance(fault, pace.TooSlow):
+            slow.append(f"{name}: {fault}")
+        elif fault:
+            failed += 1
+            print(f"{name}: {fault}")
+    return failed, slow
 
 
 def main(bench_words, wanted, share):
@@ -94,8 +100,9 @@ def main(bench_words, wanted, share):
         print("Chromium: isn't installed, all tests of the page left out")
         return outcome.NOT_RUN
     bench = Bench(*bench_words)
+    them = chosen(wanted, share)
     try:
-        passed = passed_of(bench, chosen(wanted, share))
+        failed, slow = faults_of(bench, them)
     finally:
         bench.close()
-    return outcome.told("the page", len(passed), passed.count(False))
+    return outcome.told("the page", len(them), failed, slow)

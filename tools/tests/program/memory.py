@@ -1,9 +1,9 @@
 """Less memory than the machine has: each example within it, and long scripts within that of short ones."""
 
 import concurrent.futures
-import os
 import pathlib
 
+import processors
 from examples import EXAMPLES, words_of
 from images import heap_of
 from suite import KIB, MEMORY, SCRIPT_VERBS, SMALL_STEPS
@@ -37,7 +37,7 @@ def example_runs():
 
 def within_each(suite, runs, limits):
     """How the program ends by the words of each run within each of so many bytes of memory."""
-    with concurrent.futures.ThreadPoolExecutor(os.cpu_count()) as pool:
+    with concurrent.futures.ThreadPoolExecutor(processors.usable()) as pool:
         yield from pool.map(lambda words: suite.run_within(words, limits), runs)
 
 

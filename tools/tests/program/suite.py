@@ -7,6 +7,8 @@ import signal
 import subprocess
 import tempfile
 
+import pace
+
 # The words of the program that take a script.
 SCRIPT_VERBS = ("run", "explain", "map", "draw")
 WRITE_FAILED = b"rh_desk: write failed\n"
@@ -22,15 +24,15 @@ WITHIN_EACH = """for most in $MOST; do
     (ulimit -v "$most" && exec "$0" "$@") >"$ROOM/$most.printed" 2>"$ROOM/$most.told"
     echo $?
 done"""
-# The seconds after which a run that hangs is ended.
-SECONDS = 120
+# The seconds of a processor that a run may take.
+MOST = 120
 
 
 class Suite:
-    """A program, and what it did otherwise than it should."""
+    """A program, what it did otherwise than it should, and for what it was too slow."""
 
     def __init__(self, program):
-        self.program, self.wrong, self.tests = program, 0, 0
+        self.program, self.wrong, self.tests, self.slow = program, 0, 0, []
 
     def run(self, words, stdin=b"", limit=None, stack=None, longest=None, user=None, stdout=subprocess.PIPE,
             stderr=subprocess.PIPE):
@@ -52,7 +54,7 @@ class Suite:
         source = {"input": stdin} if isinstance(stdin, bytes) else {"stdin": stdin}
         streams = {**source, "stdout": stdout, "stderr": stderr}
         changed = before if user or longest is not None else None
-        given = subprocess.run(words, **streams, timeout=SECONDS, preexec_fn=changed)
+        given = pace.run(words, MOST, **streams, preexec_fn=changed)
         return given.stdout or b"", given.stderr or b"", given.returncode
 
     def run_within(self, words, limits):
@@ -61,11 +63,21 @@ class Suite:
         sizes = [it // KIB for it in limits]
         with tempfile.TemporaryDirectory() as room:
             around = dict(os.environ, ROOM=room, MOST=" ".join(map(str, sizes)))
-            ran = subprocess.run(["sh", "-c", WITHIN_EACH, self.program, *words], stdin=subprocess.DEVNULL, env=around,
-                                 stdout=subprocess.PIPE, stderr=subprocess.DEVNULL, timeout=SECONDS + len(sizes), check=True)
+            ran = pace.run(["sh", "-c", WITHIN_EACH, self.program, *words], MOST, stdin=subprocess.DEVNULL, env=around,
+                           stdout=subprocess.PIPE, stderr=subprocess.DEVNULL)
+            ran.check_returncode()
             statuses = list(map(int, ran.stdout.split()))
             texts = [[pathlib.Path(room, f"{it}.{of}").read_bytes() for of in ("printed", "told")] for it in sizes]
         return [(*text, status) for text, status in zip(texts, statuses)]
+
+    def does(self, test):
+        """Runs a test. It fails where the program hangs in it, and is noted where the program is too slow for it."""
+        try:
+            test(self)
+        except pace.TooSlow as why:
+            self.slow.append(f"{test.__name__}: {why}")
+        except pace.Hung as why:
+            self.is_true(f"{test.__name__}: {why}", False)
 
     def is_true(self, what, holds):
         """Counts a test, and tells it where it fails."""
