@@ -8,7 +8,6 @@ import glob
 import importlib
 import os
 import re
-import shutil
 import subprocess
 import sys
 import tempfile
@@ -65,13 +64,7 @@ class Port(ctests.Suite):
 
     def __init__(self, top, folder, program, work):
         super().__init__(top, folder, work)
-        self.program, self.dest, self.root, self.lacking = program, f"{work}/dest", f"{work}/dest{PREFIX}", []
-
-    def has(self, program, what):
-        """Whether the machine has a program; else what is left out is noted."""
-        if not shutil.which(program):
-            self.lacking.append(f"{program}: isn't installed, {what} left out")
-        return bool(shutil.which(program))
+        self.program, self.dest, self.root = program, f"{work}/dest", f"{work}/dest{PREFIX}"
 
     def broken(self):
         """A folder with a shared library that nothing can be linked with, which stands before any of the machine's."""
@@ -240,7 +233,7 @@ def try_page(port, compiling):
 
 def try_cmake(port):
     """A project that finds the package builds over all three of its targets; no other version is found."""
-    if not port.has("cmake", "a project of CMake"):
+    if not all(port.has(it, "a project of CMake") for it in ("cmake", "make")):
         return
     for version in (*FITS, *DIFFERS):
         folder = f"{port.work}/cmake-{version}"

@@ -40,12 +40,20 @@ SHIMMED = ["sort", "-r", "README.md"]
 
 
 class Suite:
-    """A folder with the library for a machine, what was tried over it, and what of that was not as it should be."""
+    """A folder with the library for a machine, what was tried over it, what of that was not as it should be, and what the
+    machine lacks for more."""
 
     def __init__(self, top, folder, work, target=HERE):
-        self.top, self.folder, self.work, self.tried, self.wrong, self.slow = top, folder, work, 0, [], []
+        self.top, self.folder, self.work = top, folder, work
+        self.tried, self.wrong, self.slow, self.lacking = 0, [], [], []
         self.compiler, self.runner = target.compiler or tuple(archive.compiler()), target.runner
         self.target, self.ways, self.lock = target, EMULATED if target.name else WAYS, threading.Lock()
+
+    def has(self, program, what):
+        """Whether the machine has a program; else what is left out is noted."""
+        if not shutil.which(program):
+            self.lacking.append(f"{program}: isn't installed, {what} left out")
+        return bool(shutil.which(program))
 
     def count(self):
         """Counts one more, where several calls may do so at once."""
@@ -167,9 +175,8 @@ def try_header(suite):
     with open(alone, "w", encoding="utf-8") as it:
         it.write(f'#include "{archive.NAME}.h"\n')
     suite.compiled("the header as C99", [alone], ["-std=c99", "-Wpedantic", *STRICT, "-fsyntax-only"], "/dev/null")
-    cpp = shutil.which("c++")
-    if cpp:
-        words = [cpp, *STRICT, "-fsyntax-only", "-x", "c++", f"-I{suite.folder}", alone]
+    if suite.has("c++", "the header as C++"):
+        words = ["c++", *STRICT, "-fsyntax-only", "-x", "c++", f"-I{suite.folder}", alone]
         suite.ran("compiling the header as C++", words)
 
 
@@ -179,7 +186,7 @@ def try_examples(suite):
     The library for another machine is told to pkg-config where it is installed alone.
     """
     flags, objects = [], [plain_object(suite, it, AS_IT_IS) for it in shims(suite)]
-    if suite.target is HERE and shutil.which("pkg-config"):
+    if suite.target is HERE and suite.has("pkg-config", "its flags"):
         where = dict(os.environ, PKG_CONFIG_PATH=suite.folder)
         told = suite.ran("pkg-config", ["pkg-config", "--cflags", "--libs", archive.NAME], env=where)
         flags = (told or b"").decode().split()
@@ -259,7 +266,7 @@ OF_OTHERS = (*OF_ALL, try_shared)
 def told(suite, others, what):
     """Runs all tests of a suite, tells what was wrong, and gives the exit status."""
     tests = run_all(suite, others)
-    for it in suite.wrong:
+    for it in [*suite.wrong, *sorted(suite.lacking)]:
         print(it)
     what = f"{tests} programs in C in {len(suite.ways)} ways, {what}"
     return outcome.told(what, suite.tried * bool(tests), len(suite.wrong), suite.slow)
