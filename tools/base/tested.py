@@ -45,7 +45,7 @@ def built_here(top):
 
 @dataclasses.dataclass(frozen=True)
 class Part:
-    """Tests that run by one command. Those that need a browser or an emulator may be left out anywhere; some are timed,
+    """Tests that run by one command. Those that need a browser, an emulator or valgrind may be left out anywhere; some are timed,
     and run alone."""
 
     name: str
@@ -65,6 +65,7 @@ def parts_of(top, build, is_dist):
     return [
         *sheets,
         *pages,
+        Part("speed", [f"{tests}speed", build.program, build.library], True),
         Part("rows", [f"{tests}rows", build.program]),
         Part("pictures", [f"{tests}program", build.program, "maps", "drawings", "figures", "lenses", "lens_words",
                           "limits", "layout"]),
@@ -135,7 +136,7 @@ def is_well(status, tests, failed, slow):
 def result_of(part, is_whole):
     """Runs a part. It is well where its tests ran and none failed, or where it says what the machine lacks.
 
-    Of the whole no part may be left out but for want of a browser or an emulator.
+    Of the whole no part may be left out but for want of a browser, an emulator or valgrind.
     """
     start = time.monotonic()
     try:
