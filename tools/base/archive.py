@@ -30,7 +30,8 @@ def compiler():
 
 def missing():
     """What this machine lacks of the programs that tests of the library stand on."""
-    return [it for it in (compiler()[0], *HERE.reader) if not shutil.which(it)]
+    missing = [it for it in (compiler()[0], *HERE.reader) if not shutil.which(it)]
+    return missing or HERE.missing_of_library(compiler())
 
 
 def path(folder):

@@ -2,6 +2,11 @@
 
 import dataclasses
 import shutil
+import subprocess
+
+# A header that each program includes, and how a compiler is asked for it.
+HEADER = "stdio.h"
+ASKED = ("-fsyntax-only", "-x", "c", "-include", HEADER, "/dev/null")
 
 
 @dataclasses.dataclass(frozen=True)
@@ -20,7 +25,14 @@ class Target:
 
     def missing(self):
         """What this machine lacks of the programs by which the target's library is tested."""
-        return [it[0] for it in (self.compiler, self.runner, self.reader) if not shutil.which(it[0])]
+        programs = (self.compiler, self.runner, self.reader)
+        return [it[0] for it in programs if not shutil.which(it[0])] or self.missing_of_library(self.compiler)
+
+    @staticmethod
+    def missing_of_library(compiler):
+        """What a compiler doesn't find of a C library, as a package of its own may have this."""
+        ran = subprocess.run([*compiler, *ASKED], capture_output=True, check=False)
+        return [HEADER] if ran.returncode else []
 
 
 HERE = Target()
