@@ -40,8 +40,8 @@ SHIMMED = ["sort", "-r", "README.md"]
 
 
 class Suite:
-    """A folder with the library for a machine, what was tried over it, what of that was not as it should be, and what the
-    machine lacks for more."""
+    """A folder with the library for a machine, what was tried over it, what of that was not as it should be, and what
+    the machine lacks for more."""
 
     def __init__(self, top, folder, work, target=HERE):
         self.top, self.folder, self.work = top, folder, work
