@@ -8,6 +8,7 @@ call or an argument without a row fails the test, and so does a call of the libr
 
 import array
 import copy
+import ctypes
 import enum
 import inspect
 import itertools
@@ -107,11 +108,10 @@ class Noting:
     """The library, of which the calls that are made are noted."""
 
     def __init__(self, library):
-        self.library, self.before = library, lambda name: None
+        self.library = library
 
     def __getattr__(self, name):
         made.add(name)
-        self.before(name)
         return getattr(self.library, name)
 
 
@@ -347,6 +347,13 @@ def test_long_reads_need_no_memory():
     for call in ("Heap", "Slot"):
         told, _ = outcome(call, [1 << 45])
         expect(getattr(told, "name", None) == "BAD_LENGTH", f"{call} of 2^45 bytes: {told!r}")
+    with Desk(pages=1024) as desk:
+        data = bytes(range(1, 251)) * 12_000
+        desk.task("a", 4)
+        at = desk.alloc("a", 0, len(data))
+        desk.put("a", 0, 0, data)
+        expect(desk.show("a", 0) == desk.show_at("a", 0, 0, len(data)) == desk.read("a", at, 0, len(data)) == data,
+               "a read of 3 MB")
 
 
 def test_texts_that_no_line_has():
@@ -419,26 +426,35 @@ def test_nothing_is_copied():
 
 def test_threads_take_turns():
     """While one thread is between two calls that belong together, another one's calls wait."""
-    def meets(name, first, second, wanted):
-        desk = begun("Desk")
-        other = threading.Thread(target=second, args=(desk,))
+    arguments = vervainfile_calls.arguments
 
-        def begins(call):
-            if call == name and not other.ident:
-                other.start()
-                other.join(0.2)
+    def meets(calls, first, second, wanted):
+        desk, left = begun("Desk"), iter(calls)
+        after, other = next(left), threading.Thread(target=second, args=(desk,))
 
-        LIBRARY.before = begins
+        def begins(call, *given):
+            nonlocal after
+            if call == after and threading.current_thread() is not other:
+                after = next(left, None)
+                if not after:
+                    other.start()
+                    other.join(0.2)
+            return arguments(call, *given)
+
+        vervainfile_calls.arguments = begins
         told = first(desk)
-        LIBRARY.before = lambda call: None
+        vervainfile_calls.arguments = arguments
+        expect(other.ident, f"{calls} begin no other thread")
         other.join()
-        expect(told == wanted, f"{name} next to another thread: {told!r}")
+        expect(told == wanted, f"{calls} next to another thread: {told!r}")
 
-    meets("vf_desk_reply", lambda it: it.line("show a 0"), lambda it: it.line("areas"), "ok 6 0a0b0c0d0e0f")
-    meets("vf_desk_reply", lambda it: it.line("tsk"), lambda it: it.run("areas\nkill a"), "bad Unknown")
-    grows, shrinks = lambda it: it.extend("a", 0, 9000), lambda it: it.extend("a", 0, 1)
-    meets("vf_desk_show", lambda it: it.show("a", 0), grows, bytes(range(10, 16)))
-    meets("vf_desk_show", lambda it: it.show("a", 0), shrinks, bytes(range(10, 16)))
+    meets(["vf_desk_reply"], lambda it: it.line("show a 0"), lambda it: it.line("areas"), "ok 6 0a0b0c0d0e0f")
+    meets(["vf_desk_reply"], lambda it: it.line("tsk"), lambda it: it.run("areas\nkill a"), "bad Unknown")
+    grows, shrinks, bytes_of_a = lambda it: it.extend("a", 0, 9000), lambda it: it.extend("a", 0, 1), bytes(range(10, 16))
+    meets(["vf_desk_show"] * 2, lambda it: it.show("a", 0), grows, bytes_of_a)
+    meets(["vf_desk_show"] * 2, lambda it: it.show("a", 0), shrinks, bytes_of_a)
+    # Nor does another thread write to what a call looks at.
+    expect(type(LIBRARY.library) is ctypes.PyDLL, "the library lets other threads run while it is called")
 
 
 def test_pictures_are_of_the_same_commands():
@@ -453,6 +469,25 @@ def test_pictures_are_of_the_same_commands():
     picture = desk._repr_svg_()
     expect(picture and picture == lines._repr_svg_(), "a picture of commands by other types")
     expect("task no" not in str(desk._done), "a line with a line feed is drawn")
+
+
+def test_each_command_has_its_line():
+    """A call leaves the desk as the line does by which it is drawn."""
+    without_id = [(f"Desk.cancel_{way}", [NAME, ("id", 0, ARGUMENT)]) for way in ("in", "out")]
+    played = [("Desk.task", [("name", "t", TEXT), ("buffer", 4, ARGUMENT), ("manner", it, ARGUMENT)]) for it in range(4)]
+    lines, others = 0, {"close", "run", "next", "show", "show_at", "read", "write", "rma_read", "rma_write", "transfer",
+                        "blocks", "heap", "status", "areas", "spool"}
+    for call, row in [*ROWS.items(), *without_id, *played]:
+        name, method = split(call)
+        desk, by_line = begun("Desk"), begun("Desk")
+        if name != "Desk" or not method or method in others:
+            continue
+        getattr(desk, method)(*[taken for _, taken, _ in row])
+        replies = by_line.run(b"\n".join(vervainfile._lines_of(*desk._done[-1])))
+        expect(replies.startswith("ok"), f"{call} as a line: {replies}")
+        expect(state(desk) == state(by_line), f"{call} and its line leave the desk otherwise")
+        lines += 1
+    expect(lines == len([it for it in ROWS if it.startswith("Desk.")]) - len(others) + 6, f"{lines} commands have lines")
 
 
 def test_each_call_of_the_library_is_made():

@@ -105,33 +105,36 @@ class _Memory(_Own):
             wanted = f"bytes in one piece that may be written, not {type(memory).__name__!r}"
             raise TypeError(f"Heap.of: argument `memory`: {wanted}") from None
         self._memory = memory
+        # What each call is lent: the bytes, and of a slot its struct.
+        self._lent = (self._at, len(self._at))
 
     @property
     def memory(self):
         """The bytes themselves."""
         return self._memory
 
-    def _lent(self):
-        return self._at, len(self._at)
-
     def _call(self, name, *given, told=()):
-        """Makes a call of the family, or one by its whole name, and gives its arguments as it has them."""
-        call = name if name in CALLS else self._FAMILY + name
+        """Makes a call of the family, and gives its arguments as it has them."""
+        call = self._FAMILY + name
         values, handed = _calls.arguments(call, given, len(self._at))
         with self._lock:
-            _calls.do(call, *self._lent(), *handed, *map(ctypes.byref, told))
+            _calls.do(call, *self._lent, *handed, *told)
         return values
 
     def _tell(self, name, *given):
         """The same of a call that tells a number."""
         number = ctypes.c_size_t()
-        self._call(name, *given, told=[number])
+        self._call(name, *given, told=(ctypes.byref(number),))
         return number.value
 
     def _describe(self):
         most, free = ctypes.c_size_t(), ctypes.c_size_t()
-        self._call("describe", told=[most, free])
+        self._call("describe", told=(ctypes.byref(most), ctypes.byref(free)))
         return Free(most.value, free.value)
+
+    def _check(self, call):
+        with self._lock:
+            _calls.do(call, *self._lent)
 
     def bytes_at(self, address, size):
         """A view of bytes, to be read and written: `heap.bytes_at(20, 5)[:] = b"hello"`."""
@@ -181,7 +184,7 @@ class Heap(_Memory):
 
     def check(self):
         """Refused where the bytes are no heap."""
-        self._call("vf_heap_check")
+        self._check("vf_heap_check")
 
     def describe(self):
         """OS_Heap 1: the largest block that could be claimed, and all free bytes."""
@@ -216,10 +219,8 @@ class _Flex(_Memory):
         (room, *_), (_, *handed) = _calls.arguments(call, [room, *anchors])
         super().__init__(bytearray(room))
         self._slot = slot
-        _calls.do(call, *self._lent(), *handed)
-
-    def _lent(self):
-        return self._at, len(self._at), ctypes.byref(self._slot)
+        self._lent += (ctypes.byref(slot),)
+        _calls.do(call, *self._lent, *handed)
 
     @property
     def slides(self):
@@ -253,7 +254,7 @@ class _Flex(_Memory):
     def _places(self, count):
         places = (ctypes.c_size_t * count)()
         with self._lock:
-            _calls.do(self._FAMILY + "places", *self._lent(), places, count)
+            _calls.do(self._FAMILY + "places", *self._lent, places, count)
         return {anchor: place for anchor, place in enumerate(places) if place}
 
     def put(self, anchor, offset, data):
@@ -297,7 +298,7 @@ class Slot(_Flex):
 
     def check(self):
         """Refused where the bytes are no slot."""
-        self._call("vf_flex_check")
+        self._check("vf_flex_check")
 
     def budge(self, on):
         """flex_set_budge: whether blocks slide where the C heap must grow; tells whether they did."""
@@ -555,7 +556,7 @@ class Desk(_Own):
             to = (ctypes.c_uint8 * room)()
             try:
                 self._call("reply", told=[to, room, ctypes.byref(length)])
-                return bytes(to[:length.value]).decode("ascii").removesuffix("\n")
+                return ctypes.string_at(to, length.value).decode("ascii").removesuffix("\n")
             except Refused as why:
                 if why.status != SHORT:
                     raise

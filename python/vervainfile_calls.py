@@ -116,6 +116,8 @@ CALLS = {
 }
 # Of each call what a program gives, as pairs of a name and a kind.
 GIVEN = {call: [it.split(":") for it in row.split() if ":" in it] for call, row in CALLS.items()}
+# The kinds that are a pointer and a size_t.
+PAIRS = "thr"
 # The calls by the names of Python: those of a family, and those that are named otherwise.
 FAMILIES = {"vf_heap_checked_": "Heap.", "vf_flex_checked_": "Slot.", "vf_flex_wide_": "WideSlot.", "vf_desk_": "Desk."}
 OTHER_NAMES = {"vf_heap_init": "Heap", "vf_flex_start": "Slot", "vf_flex_set_budge": "Slot.budge",
@@ -154,7 +156,11 @@ NUMBERS = {
 NUMBERS.update(r=NUMBERS["z"], x=NUMBERS["u"], m=NUMBERS["u"])
 TYPES = {kind: [it.type] for kind, it in NUMBERS.items()}
 TYPES.update(p=[ctypes.c_void_p], b=[ctypes.c_bool])
-TYPES.update(dict.fromkeys("thr", [ctypes.c_void_p, ctypes.c_size_t]))
+TYPES.update(dict.fromkeys(PAIRS, [ctypes.c_void_p, ctypes.c_size_t]))
+# What each call is given, with the range of each number; that of all others is empty.
+_RANGES = {kind: (NUMBERS[kind].least, NUMBERS[kind].most) if kind in set(NUMBERS) - set(PAIRS) else (1, 0)
+           for kind in {*NUMBERS, *PAIRS, "b"}}
+_RANGED = {call: [(*it, *_RANGES[it[1]]) for it in given] for call, given in GIVEN.items()}
 
 
 def _number(kind, given):
@@ -217,12 +223,16 @@ def argument(call, name, kind, given):
 def arguments(call, given, longest=0):
     """All arguments of a call, and what C is handed for them; no room is longer than one byte more than `longest`."""
     values, handed = [], []
-    for (name, kind), it in zip(GIVEN[call], given):
-        value = argument(call, name, kind, it)
+    for (name, kind, least, most), it in zip(_RANGED[call], given):
+        # Most arguments are plain numbers, of which there is no more to test.
+        if type(it) is not int or not least <= it <= most:
+            it = argument(call, name, kind, it)
         if kind == "r":
-            value = (ctypes.c_uint8 * min(value, longest + 1))()
-        values.append(value)
-        handed += [value, len(value)] if kind in "thr" else [value]
+            it = (ctypes.c_uint8 * min(it, longest + 1))()
+        values.append(it)
+        handed.append(it)
+        if kind in PAIRS:
+            handed.append(len(it))
     return values, handed
 
 
