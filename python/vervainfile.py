@@ -515,8 +515,9 @@ class Desk(_Own):
         return number.value
 
     def _keep(self, name, values):
-        # What has a line feed in it is no line of a script, and does nothing.
-        if self._done is None or (name == "line" and b"\n" in values[0]):
+        # A line without words and a remark are no commands, and what has a line feed in it is no line of a script.
+        words = values[0].lstrip(b" ") if name == "line" else b"command"
+        if self._done is None or words[:1] in (b"", b"#") or b"\n" in words:
             return
         self._done.append((name, values))
         if len(self._done) > MOST_DRAWN:
