@@ -16,6 +16,7 @@ status of `within` is 0 or 75.
 """
 
 import collections
+import contextlib
 import os
 import resource
 import signal
@@ -135,14 +136,13 @@ def family(pid):
 
 
 def _is_at_work(pids):
-    """Whether a thread of these processes runs, or waits for a processor or a disk. The one that asks doesn't count."""
-    own = str(threading.get_native_id())
+    """Whether a thread of these processes runs, or waits for a processor or a disk."""
     for pid in pids:
         try:
             threads = os.listdir(f"/proc/{pid}/task")
         except OSError:
             continue
-        if any(_fields(f"/proc/{pid}/task/{it}/stat")[:1] in ([b"R"], [b"D"]) for it in threads if it != own):
+        if any(_fields(f"/proc/{pid}/task/{it}/stat")[:1] in ([b"R"], [b"D"]) for it in threads):
             return True
     return False
 
@@ -167,7 +167,8 @@ def _signal(pids, number):
 class Watch:
     """Looks at processes with all that they began, once in so many seconds, and raises where they hang or take too much.
 
-    With `is_new` they have just begun. Otherwise only what they take after the first look counts.
+    With `is_new` they have just begun. Otherwise only what they take after the first look counts. Of the process that
+    looks only what it began counts.
     """
 
     def __init__(self, most, *pids, is_new=True, every=None):
@@ -197,16 +198,14 @@ class Watch:
             raise TooSlow(f"ended after {MACHINE.told(self.spent - self.before, self.most)}")
 
     def _members(self):
-        return {number: it for pid in self.pids for number, it in family(pid).items()}
+        return {number: it for pid in self.pids for number, it in family(pid).items() if number != os.getpid()}
 
     def _is_allowed(self, spent):
         return MACHINE.allows(spent - self.before, self.most)
 
 
 def _seconds(members):
-    """The seconds that processes have taken, without those of the thread that asks."""
-    own = time.thread_time() if os.getpid() in members else 0
-    return sum(it.seconds for it in members.values()) - own
+    return sum(it.seconds for it in members.values())
 
 
 def run(words, most=None, every=None, **how):
@@ -221,7 +220,9 @@ def run(words, most=None, every=None, **how):
         how["stdout"] = how["stderr"] = subprocess.PIPE
     with subprocess.Popen(words, **how) as running:
         try:
-            output = _communicated(running, given, Watch(most or MOST, running.pid, *others, every=every))
+            if given is not None:
+                _feed(running, given)
+            output = _communicated(running, Watch(most or MOST, running.pid, *others, every=every))
         except BaseException as why:
             end(running.pid)
             if isinstance(why, Ended):
@@ -230,13 +231,23 @@ def run(words, most=None, every=None, **how):
     return subprocess.CompletedProcess(words, running.returncode, *output)
 
 
-def _communicated(running, given, watch):
+def _feed(running, given):
+    """Writes what a command reads, as it reads it. A call of `communicate` goes on with no input that another began."""
+    stdin, running.stdin = running.stdin, None
+
+    def write():
+        with contextlib.suppress(BrokenPipeError), stdin:
+            stdin.write(given)
+
+    threading.Thread(target=write, daemon=True).start()
+
+
+def _communicated(running, watch):
     """What a command prints until it ends."""
     while True:
         try:
-            return running.communicate(given, timeout=watch.left())
+            return running.communicate(timeout=watch.left())
         except subprocess.TimeoutExpired:
-            given = None
             watch.look()
 
 
@@ -249,13 +260,17 @@ def _left(running):
 
 
 def wait(running, most=None):
-    """Waits for a process of ours to end, for as long as it is at work."""
+    """Waits for a process of ours to end. Where it hangs or takes too much, it is ended with all that it began."""
     watch = Watch(most or MOST, running.pid, is_new=False)
     while True:
         try:
             return running.wait(watch.left())
         except subprocess.TimeoutExpired:
-            watch.look()
+            try:
+                watch.look()
+            except Ended:
+                end(running.pid)
+                raise
 
 
 def children_seconds():
