@@ -15,8 +15,6 @@ const NUMBERS = ["Anchor", "Buffer", "Size", "Offset", "Amount", "AreaNumber", "
 // are free, which transfer uses a block or how long a block is, the program tells and the page doesn't.
 const ABOUT = { name_in: "NAME", recipient_in: "TO", loaded_file: "FILE", anchor_in: "A", area_in: "K",
   address_in: "ADDR" };
-// Commands of tasks with code of their own, some of whose refusals have reasons of their own.
-const OF_PROGRAMS = ["send", "write", "transfer", "ack", "spool", "scrap"];
 // So many letters of a short word, or of a longer one, may be other than those of the command that was meant.
 const SHORT_WORD = 4;
 const MOST_OTHER = { short: 1, long: 2 };
@@ -118,14 +116,15 @@ function wordSays(number, word) {
 
 const hexAddress = (number) => `&${number.toString(HEX_BASE).toUpperCase()}`;
 
-// What is odd about the bytes of a bad line, if anything is: its end, or else the first that no word may have.
+// What is odd about the bytes of a bad line, if anything is, and what helps: its end, or else the first that no word may
+// have.
 function oddSays(line) {
   const bytes = bytesOf(line);
   const isEnd = bytes.at(-1) === CARRIAGE_RETURN;
   const byte = isEnd ? CARRIAGE_RETURN : bytes.find((it) => it < FIRST_OF_WORDS || it > LAST_OF_WORDS);
   if (byte === undefined) return "";
-  const { says, helps } = isEnd ? FAULTS.odd.Return : byte === TAB ? FAULTS.odd.Tab : FAULTS.odd.Foreign;
-  return sentence(`this line${says.join(hexAddress(byte))}`, helps);
+  const says = isEnd ? FAULTS.odd.Return : byte === TAB ? FAULTS.odd.Tab : FAULTS.odd.Foreign;
+  return sentence(says.join(hexAddress(byte)));
 }
 
 // What is wrong with a line whose first word is no command.
@@ -167,7 +166,7 @@ function faultOfWords(line, kind, number) {
 function faultOf(line, kind, number) {
   const end = FAULTS.ends[kind];
   if (end) {
-    return { says: sentence(`this line${end.says}`, end.helps), fix: kind === "Unended" ? line : undefined };
+    return { says: sentence(end.says, end.helps), fix: kind === "Unended" ? line : undefined };
   }
   const odd = oddSays(line);
   const whole = mended(line);
@@ -208,7 +207,7 @@ function refusedSays(line, name) {
   const kind = ABOUT[about];
   const at = formOf(line)?.words.indexOf(kind) ?? -1;
   const detail = at < 0 ? "" : SENTENCES.detail + plainWord(kind, given[at]);
-  const own = OF_PROGRAMS.includes(given[0]) ? SENTENCES.ofPrograms[name] : undefined;
+  const own = kindOf(given)?.reasons[name];
   if (own) return `${sentence(own.why, own.helps)} Nothing was changed.`;
   const reason = name === "Busy" && given[0] === "save" ? BUSY_SAVE : why + detail;
   return `${sentence(reason, helps)} Nothing was changed.`;

@@ -11,8 +11,11 @@ import page
 
 # The part of the page's script that is made here.
 PART = "sentences.js"
-# Refusals of which commands of tasks with code of their own are told reasons of their own.
-OWN_REASONS = ("Busy", "NoFile", "BadRange")
+# Kinds of commands that have reasons of their own for some refusals: the function that says of a kind whether it is one
+# of these, the front of the names of the functions that have the reasons, and the refusals. The first that holds counts.
+OWN_REASONS = (("is_of_bytes", "bytes", ("BadRange",)), ("is_of_programs", "program", ("Busy", "NoFile", "BadRange")))
+# The refusal with which help is a kind's own.
+MANNER = "WrongManner"
 HEAD = "// What explain and help COMMAND say, as their definitions have it. sentences.py makes this part.\n"
 # A rule of a definition: its left side, and its right side with the lines behind it.
 RULE = re.compile(r"^(\w+(?: [^\s=]+)*) =((?: .*)?(?:\n +.*)*)$", re.MULTILINE)
@@ -79,9 +82,19 @@ def forms_in(text):
             for it in dict.fromkeys((re.sub(r" \[.*\]", "", form), form.replace("[", "").replace("]", "")))]
 
 
+def own_reasons(rules, kind, refusals):
+    """Why a kind of command is refused and what helps, of those refusals where that isn't the same for all kinds."""
+    fronts = [it for it in OWN_REASONS if rules.rules.get(f"{it[0]} {kind}") == "true"]
+    _, front, names = fronts[0] if fronts else ("", "", ())
+    found = {it: reason(rules, f"{front}_why {it}", f"{front}_help {it}") for it in refusals if it in names}
+    if MANNER in refusals:
+        found[MANNER] = reason(rules, f"why {MANNER}", f"manner_help {kind}")
+    return found
+
+
 def commands(rules):
-    """Of each kind of command its forms, the words that name it, what it does, the kinds of its further words, and its
-    refusals."""
+    """Of each kind of command its forms, the words that name it, what it does, the kinds of its further words, its
+    refusals, and its own reasons for some of these."""
     own = {it: int(rules.right(f"own_words {it}")) for it in rules.cases("own_words")}
     usual = own.pop("kind")
     found = {}
@@ -91,13 +104,19 @@ def commands(rules):
         found[kind] = {"expected": expected, "forms": forms, "own": forms[0].split()[: own.get(kind, usual)],
                        "does": " ".join(rules.text_of(f"deed {kind}").split("\n")),
                        "words": rules.names(f"word_kinds {kind}"), "refusals": rules.names(f"refusals {kind}")}
+        found[kind]["reasons"] = own_reasons(rules, kind, found[kind]["refusals"])
     return found
+
+
+def reason(rules, why, helps):
+    """Why a refusal comes and what helps, by the left sides of their rules."""
+    return {"why": rules.text_of(why), "helps": rules.text_of(helps).strip()}
 
 
 def refusal(rules, name):
     """Why a refusal comes, what helps, and by which function the command has what it is about."""
     about = rules.rules.get(f"detail facts c {name}", "")
-    return {"why": rules.text_of(f"why {name}"), "helps": rules.text_of(f"help_for {name}").strip(),
+    return {**reason(rules, f"why {name}", f"help_for {name}"),
             "about": about.split("(")[-1].removesuffix(" c)") if about.endswith(" c)") else ""}
 
 
@@ -105,9 +124,7 @@ def faults(rules):
     """What is said of bad lines: of their ends, of bytes that no word may have, and of their words."""
     ends = {it: {"says": rules.text_of(f"fault_says line {it}"), "helps": rules.text_of(f"fault_help {it}").strip()}
             for it in ("TooLong", "Unended")}
-    odd = {it: {"says": rules.texts(f"odd_says {it}"), "helps": rules.text_of(f"odd_help {it}").strip()}
-           for it in ("Return", "Tab")}
-    odd["Foreign"] = {"says": rules.texts("foreign_says b"), "helps": rules.text_of("odd_help (Foreign b)").strip()}
+    odd = {**{it: rules.texts(f"odd_says {it}") for it in ("Return", "Tab")}, "Foreign": rules.texts("foreign_says b")}
     return {"ends": ends, "odd": odd, "word": rules.texts("word_says line n"), "shown": rules.number(SHOWN),
             "expected": rules.text_of("word_expected (Some kind)"), "unknown": rules.text_of("fault_says line Unknown"),
             "count": rules.text_of("forms_expected (Some kind)")}
@@ -121,8 +138,6 @@ def table(top):
     reasons = {it for command in found.values() for it in command["refusals"]}
     return {"commands": found, "words": {it: rules.text_of(f"expected {it}") for it in sorted(words)},
             "refusals": {it: refusal(rules, it) for it in rules.in_order("why", reasons)},
-            "ofPrograms": {it: {"why": rules.text_of(f"program_why {it}"),
-                                "helps": rules.text_of(f"program_help {it}").strip()} for it in OWN_REASONS},
             "allBusy": rules.text_of("busy_says None"), "detail": rules.text_of("detail_name (Some name)"),
             "faults": faults(rules)}
 

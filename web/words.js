@@ -94,8 +94,8 @@ export function isKind(word) {
 
 // A sentence of what the program writes: what is said, and what helps, if anything does.
 export function sentence(said, helps = "") {
-  const bare = said.replace(/^[ ,:]+/, "").replace(/'/g, "\u2019");
-  return `${bare[0].toUpperCase()}${bare.slice(1)}${helps && ` \u2013 ${helps}`}.`;
+  const bare = said.replace(/^[ ,:]+/, "");
+  return `${bare[0].toUpperCase()}${bare.slice(1)}${helps && ` \u2013 ${helps}`}.`.replace(/'/g, "\u2019");
 }
 
 // What helps here: files and pages are given to the page in another way than to the program, and where the program has

@@ -243,7 +243,7 @@ def check_explained(bench):
               "This anchor has a block already: 0 – take another anchor, or free that block first. "
               "Nothing was changed.", 'Word 1 "tsk": no command has this name. Is task meant? Make it: task b 5',
               'Word 3 "8114": an address is & and 1 to 8 hexadecimal digits. Make it: release a &8114', "",
-              "This line has a tab – part words by spaces. Make it: task c 5", "No message waits for it."],
+              "A tab; part words by spaces. Make it: task c 5", "No message waits for it."],
              "what is told of lines")
         for left, line in ((3, 3), (2, 5), (1, 6), (0, 8)):
             page.value("document.querySelector('#lines .fix').focus(); document.activeElement.click()")
@@ -309,7 +309,7 @@ def check_windows_line_ends(bench):
         same(page.saved("a.desk"), script, "the script when that is taken back")
         page.click("step")
         told = page.value("[...document.querySelectorAll('#lines .why')].map((it) => it.textContent)")
-        same(told, ["This line ends in a carriage return – end lines with a line feed alone. Make it: task a 9 "
+        same(told, ["A carriage return at its end; end lines with a line feed alone. Make it: task a 9 "
                     "Mend all 3 such lines", "", ""], "what is told of the line that ran last")
         page.click("run")
         told = page.value("[...document.querySelectorAll('#lines .why')].map((it) => it.textContent)")

@@ -29,11 +29,13 @@ BAD = ["areas\r", "\r", "\tareas", "blocks\u00a0a", "heap a\x1b", "\x7f", "kill 
        "abcdefghijklmnopq a", "kill abcdefghijklmnopq", "put a 0 0 abcdefghijklmnopq", "areas\v"]
 # Commands of which each is refused, behind some that aren't.
 BEFORE = ["task a 100", "task b 100", *(f"alloc a {k} 5" for k in range(9)), *(f"save a {k} b doc" for k in range(8)),
-          "poll b", "budge b off", "make 1"]
+          "poll b", "budge b off", "make 1", "task r 100 raw", "alloc r 0 5"]
 REFUSED = ["task a 5", "blocks z", "load a 9 g", "show a 009", "alloc a 0 1", "release a &0008118",
            "rma free &1800054", "put a 0 0 00", "free b 0", "release b &8114", "save a 0 b doc", "save a 8 b doc",
            "cancel b out", "repeat z", "put a 8 0 000000000000", "claim a 0", "claim b 5000", "area 3 -1",
-           "save a 8 q doc", "alloc a 9 2147483647", "area 0300 1", "area 256 8192", "remove 257"]
+           "save a 8 q doc", "alloc a 9 2147483647", "area 0300 1", "area 256 8192", "remove 257", "read a &9008 6",
+           "write r &9008 000000000000", "write a &9008 00", "send a 17 1 0 9", "spool a 8 1 0", "ack a",
+           "save r 0 a doc", "transfer r &9008 1 &8114 5"]
 # What help shows: each term with its meaning, and the lines below that.
 ENTRIES = """[...document.querySelectorAll('#forms dl > div')].map((it) => [it.querySelector('dt').textContent,
   it.querySelector('dd').firstChild.data, [...it.querySelectorAll('.kind')].map((line) => line.textContent)])"""
@@ -41,7 +43,7 @@ ENTRIES = """[...document.querySelectorAll('#forms dl > div')].map((it) => [it.q
 
 def sentence(said, helps=""):
     """What the page makes of what the program writes."""
-    said = f"this line{said}" if said.startswith(" ") else said.lstrip(",: ")
+    said = said.lstrip(",: ")
     return (said[0].upper() + said[1:] + (f" – {helps}" if helps else "") + ".").replace("'", "’")
 
 

@@ -127,6 +127,16 @@ const WORDS_TESTS = {
         "No file has this name: logo", "The pool has too few free pages", "Offset or bytes lie outside the block",
         "A transfer uses the block", "A transfer uses the block, or eight transfers that go out are open"]);
   },
+  "a command has its own reasons where those of its refusal are others"() {
+    const found = [["read a &9008 6", "BadRange"], ["write r &9008 00", "BadRange"], ["write a &9008 00", "WrongManner"],
+      ["save r 0 a doc", "WrongManner"], ["spool r 0 1 0", "Busy"]];
+    same(found.map(([line, name]) => toldOf(line, `refused ${name}`)[0].replace(" Nothing was changed.", "")),
+      ["No live block has these bytes \u2013 heap and blocks list the task\u2019s blocks.",
+        "No live block has these bytes \u2013 heap and blocks list the task\u2019s blocks.",
+        "This isn\u2019t for tasks of its manner \u2013 write is for raw tasks; others write by put.",
+        "This isn\u2019t for tasks of its manner \u2013 save isn\u2019t for raw tasks; they send by send or spool.",
+        "There is a scrap file already \u2013 it goes when its DataLoad is loaded or answered."]);
+  },
   "a word that is no command becomes the one that was meant"() {
     const lines = ["tsk a 9", "Task a 9", "malloc a 9", "realloc a &8114 8", "clam a 9", "heaps a", "xyzzy a", "q"];
     same(lines.map((line) => fixOf(line, "bad Unknown")),
@@ -177,11 +187,9 @@ const WORDS_TESTS = {
     same([toldOf("kill a\u001b", "bad Word 2"), toldOf("areas\t\u0001", "bad Unknown")[0],
       toldOf("\u20ac", "bad Unknown")[0], toldOf("put a 0 0 \u20ac", "bad Word 5"),
       toldOf("areas\r", "bad Unended")[0]],
-    [[`This line has the byte &1B, which no word may have \u2013 ${helps}`, undefined],
-      "This line has a tab \u2013 part words by spaces.",
-      `This line has the byte &E2, which no word may have \u2013 ${helps}`,
-      [`This line has the byte &E2, which no word may have \u2013 ${helps}`, "put a 0 0 e282ac"],
-      "This line is cut: the script ends without a line feed \u2013 end the last line with a line feed."]);
+    [[`The byte &1B; ${helps}`, undefined], "A tab; part words by spaces.", `The byte &E2; ${helps}`,
+      [`The byte &E2; ${helps}`, "put a 0 0 e282ac"],
+      "Cut, as the script ends without a line feed \u2013 end the last line with a line feed."]);
   },
   "characters that part no words become such that do"() {
     const lines = ["task\ta\t9\r", "alloc\u00a0a 0 5", "area 1 \u2212409", "\ufefftask a 9", "# a\tb\u2014c\r",

@@ -31,10 +31,11 @@ mistakes = refl
 -- what no word may have is told before all else, and no line that is skipped is told
 odd : says (start 64 []) 0 (
     ("# a remark\r", "")
-    ∷ ("areas\r", "line 2 ends in a carriage return\n  areas\\x0d\n  end lines with a line feed alone\n")
-    ∷ ("task\ta 100", "line 3 has a tab\n  task\\x09a 100\n  part words by spaces\n")
+    ∷ ("areas\r", "line 2: a carriage return at its end; end lines with a line feed alone\n  areas\\x0d\n")
+    ∷ ("task\ta 100", "line 3: a tab; part words by spaces\n  task\\x09a 100\n")
     ∷ ("", "")
     ∷ ("kill z", "line 5: no live task has this name: z\n  kill z\n  start it by task NAME BUF; upper and lower case differ\n")
+    ∷ ("areas\r 1", "line 6: the byte &D; words have characters from ! to ~ alone\n  areas\\x0d 1\n")
     ∷ []
     ) ≡ true
 unfolding computing_script hex_on_literals
@@ -58,8 +59,26 @@ received : says (start 64 []) 0 (
 unfolding computing_script hex_on_literals
 received = refl
 
+-- a range that is no block's, and for which tasks each command is
+bytes_and_manners : says (start 64 []) 0 (
+    ("task a 100", "")
+    ∷ ("task r 100 raw", "")
+    ∷ ("alloc a 0 5", "")
+    ∷ ("alloc r 0 5", "")
+    ∷ ("read a &9008 6", "line 5: no live block has these bytes\n  read a &9008 6\n  heap and blocks list the task's blocks\n")
+    ∷ ("write r &9007 00", "line 6: no live block has these bytes\n  write r &9007 00\n  heap and blocks list the task's blocks\n")
+    ∷ ("write a &9008 00", "line 7: this isn't for tasks of its manner\n  write a &9008 00\n  write is for raw tasks; others write by put\n")
+    ∷ ("ack a", "line 8: this isn't for tasks of its manner\n  ack a\n  ack is for raw tasks; a poll answers for others\n")
+    ∷ ("send a 17 2 0 9", "line 9: this isn't for tasks of its manner\n  send a 17 2 0 9\n  send is for raw tasks; others offer files by save\n")
+    ∷ ("spool a 0 2 0", "line 10: this isn't for tasks of its manner\n  spool a 0 2 0\n  spool is for raw tasks; others offer files by save\n")
+    ∷ ("save r 0 a doc", "line 11: this isn't for tasks of its manner\n  save r 0 a doc\n  save isn't for raw tasks; they send by send or spool\n")
+    ∷ []
+    ) ≡ true
+unfolding computing_script hex_on_literals
+bytes_and_manners = refl
+
 -- a line that was cut
 cut : bytes_eq (said_of_rest 3 (codes "areas"))
-    (codes "line 3 is cut: the script ends without a line feed\n  areas\n  end the last line with a line feed\n") ≡ true
+    (codes "line 3: cut, as the script ends without a line feed\n  areas\n  end the last line with a line feed\n") ≡ true
 unfolding computing_script
 cut = refl

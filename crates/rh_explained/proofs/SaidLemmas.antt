@@ -28,7 +28,7 @@ use Rattle.rh_session.proofs.LineLemmas.{ended-append}
 use Rattle.rh_session.proofs.RunLemmas.{or_false, or_true}
 use Rattle.rh_explained.specs.Explained.{Explained, ExplainedSoFar, ExplainedUntil, is_said, said_of_line, said_of_lines, said_of_rest, said_of_script}
 use Rattle.rh_explained.specs.Explanations.{bad_line, bad_line_as, explained as explained_text, oddity_at, refusal_explained, said_of}
-use Rattle.rh_explained.specs.Explanations.{fault_help, fault_says, odd_help, odd_says}
+use Rattle.rh_explained.specs.Explanations.{fault_help, fault_says, odd_says}
 use Rattle.rh_explained.specs.Subjects.{facts_on}
 use Rattle.rh_explained.specs.declared.facts.Facts.{Facts}
 use Rattle.rh_explained.specs.SaidLines.{SaidOfLine, SaidOfMeaning, SaidOfRest}
@@ -51,7 +51,7 @@ explained_said n says line helps =
 
 bad_line_said_as : (odd : Option Oddity) (n : ℕ) (line : List ℕ) (fault : LineFault) → is_said (bad_line_as odd n line fault) ≡ true
 bad_line_said_as None n line fault = explained_said n (fault_says line fault) line (fault_help fault)
-bad_line_said_as (Some odd) n line fault = explained_said n (odd_says odd) line (odd_help odd)
+bad_line_said_as (Some odd) n line fault = explained_said n (odd_says odd) line []
 
 pub bad_line_said : (n : ℕ) (line : List ℕ) (fault : LineFault) → is_said (bad_line n line fault) ≡ true
 bad_line_said n line fault = bad_line_said_as (oddity_at line fault) n line fault

@@ -24,6 +24,12 @@ is_of_programs Spool = true
 is_of_programs Scrap = true
 is_of_programs kind = false
 
+-- whether a kind is about bytes at an address of its own task's slot
+abbrev pub is_of_bytes : CommandKind → Bool
+is_of_bytes Read = true
+is_of_bytes Write = true
+is_of_bytes kind = false
+
 -- a kind that is about tasks and their transfers
 abbrev pub task_kind : List ℕ → Option CommandKind
 task_kind first =

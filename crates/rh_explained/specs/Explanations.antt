@@ -1,9 +1,8 @@
 -- The explanation of a bad line or a refused command: its number and what is wrong, below that its text, and below that
 -- what helps, where that is clear.
-use Rattle.std.specs.Prelude.{ℕ, ◌-◌, Bool, true, false, ◌==◌, ◌||◌, nat_lt, if◌then◌else◌, List, [], ◌++◌, codes, find, length, slice_index, Option, Some, None, Ok, Err}
+use Rattle.std.specs.Prelude.{ℕ, ◌-◌, Bool, true, false, not, ◌==◌, ◌&&◌, ◌||◌, nat_lt, if◌then◌else◌, List, [], ◌++◌, codes, find, length, slice_index, Option, Some, None, Ok, Err}
 use Rattle.std.specs.Fmt.{decimal}
 use Rattle.rh_defs.specs.declared.command.Command.{Command}
-use Rattle.rh_defs.specs.declared.command.Command.TheVariants.{Raw}
 use Rattle.rh_defs.specs.declared.fault.LineFault.{LineFault}
 use Rattle.rh_defs.specs.declared.fault.LineFault.TheVariants.{TooLong, Unended, Unknown, Count, Word}
 use Rattle.rh_defs.specs.declared.refusal.Refusal.{Refusal}
@@ -16,8 +15,9 @@ use Rattle.rh_defs.specs.Desk.{Desk}
 use Rattle.rh_defs.specs.Line.{Meaning, nth_word, words_of}
 use Rattle.rh_defs.specs.Named.{name_in}
 use Rattle.rh_defs.specs.Text.{address}
-use Rattle.rh_explained.specs.CommandKinds.{forms, kind_at, kind_named}
-use Rattle.rh_explained.specs.Sentences.{help_for, program_help, program_why, why}
+use Rattle.rh_explained.specs.CommandKinds.{forms, is_of_programs, kind_at, kind_named}
+use Rattle.rh_explained.specs.KindTable.{kind_of}
+use Rattle.rh_explained.specs.Sentences.{kind_help, why, why_for}
 use Rattle.rh_explained.specs.ShownBytes.{shown_front}
 use Rattle.rh_explained.specs.declared.shown.TheConstants.{MOST_OF_LINE, MOST_OF_WORD}
 use Rattle.rh_explained.specs.Subjects.{address_in, anchor_in, area_in, facts_on, loaded_file, recipient_in}
@@ -74,8 +74,8 @@ forms_expected (Some kind) = codes ": expected " ++ forms kind
 
 -- what is wrong with a line of bytes that words may have
 abbrev pub fault_says : List ℕ → LineFault → List ℕ
-fault_says line TooLong = codes " has more than 1024 bytes"
-fault_says line Unended = codes " is cut: the script ends without a line feed"
+fault_says line TooLong = codes ": more than 1024 bytes"
+fault_says line Unended = codes ": cut, as the script ends without a line feed"
 fault_says line Unknown = word_says line 1 ++ codes ": no command has this name"
 fault_says line Count = forms_expected (kind_in line)
 fault_says line (Word n) = word_says line n ++ expected_at (kind_in line) n
@@ -90,18 +90,13 @@ fault_help (Word n) = []
 
 -- which byte no word may have
 abbrev pub foreign_says : ℕ → List ℕ
-foreign_says b = codes " has the byte " ++ (address b ++ codes ", which no word may have")
+foreign_says b = codes ": the byte " ++ (address b ++ codes "; words have characters from ! to ~ alone")
 
 -- what is odd about a line, and what helps then
 abbrev pub odd_says : Oddity → List ℕ
-odd_says Return = codes " ends in a carriage return"
-odd_says Tab = codes " has a tab"
+odd_says Return = codes ": a carriage return at its end; end lines with a line feed alone"
+odd_says Tab = codes ": a tab; part words by spaces"
 odd_says (Foreign b) = foreign_says b
-
-abbrev pub odd_help : Oddity → List ℕ
-odd_help Return = codes "  end lines with a line feed alone\n"
-odd_help Tab = codes "  part words by spaces\n"
-odd_help (Foreign b) = codes "  words have characters from ! to ~ alone\n"
 
 -- whether a fault is of a line's end, and not of its words
 abbrev pub is_of_end : LineFault → Bool
@@ -121,7 +116,7 @@ explained n says line help =
 -- what is wrong with a bad line: what is odd about it, or else its fault
 abbrev pub bad_line_as : Option Oddity → ℕ → List ℕ → LineFault → List ℕ
 bad_line_as None n line fault = explained n (fault_says line fault) line (fault_help fault)
-bad_line_as (Some odd) n line fault = explained n (odd_says odd) line (odd_help odd)
+bad_line_as (Some odd) n line fault = explained n (odd_says odd) line []
 
 abbrev pub bad_line : ℕ → List ℕ → LineFault → List ℕ
 bad_line n line fault = bad_line_as (oddity_at line fault) n line fault
@@ -179,28 +174,22 @@ abbrev pub busy_says : Option BlockUse → List ℕ
 busy_says None = codes "eight transfers that go out are open"
 busy_says (Some used) = why Busy ++ (codes ": " ++ use_says used)
 
--- why a command of a task with code of its own was refused
-abbrev pub program_reason : Facts → Command → Refusal → List ℕ
-program_reason facts c refusal = program_why refusal ++ detail facts c refusal
+-- whether a refusal says that something is busy
+abbrev pub is_busy : Refusal → Bool
+is_busy Busy = true
+is_busy refusal = false
 
--- why another command was refused
-abbrev pub own_reason : Facts → Command → Refusal → List ℕ
-own_reason facts c Busy = busy_says facts.used
-own_reason facts c refusal = why refusal ++ detail facts c refusal
-
--- why a command was refused
-abbrev pub reason : Facts → Command → Refusal → List ℕ
-reason facts (Raw c) refusal = program_reason facts (Raw c) refusal
-reason facts c refusal = own_reason facts c refusal
-
--- what helps then
-abbrev pub help_of : Command → Refusal → List ℕ
-help_of (Raw c) refusal = program_help refusal
-help_of c refusal = help_for refusal
+-- why a command of a kind was refused. Busy is about the scrap file where tasks with code of their own give the command,
+-- and else about what the desk has of the command
+abbrev pub reason : CommandKind → Facts → Command → Refusal → List ℕ
+reason kind facts c refusal =
+    if is_busy refusal && not (is_of_programs kind) then busy_says facts.used
+    else why_for kind refusal ++ detail facts c refusal
 
 -- the explanation of a refused command
 abbrev pub refusal_explained : Facts → ℕ → List ℕ → Command → Refusal → List ℕ
-refusal_explained facts n line c refusal = explained n (codes ": " ++ reason facts c refusal) line (help_of c refusal)
+refusal_explained facts n line c refusal =
+    explained n (codes ": " ++ reason (kind_of c) facts c refusal) line (kind_help (kind_of c) refusal)
 
 -- what is said of a command by its reply, on the desk behind it, which a refusal leaves as it was
 abbrev pub said_of : Desk → ℕ → List ℕ → Command → Reply → List ℕ

@@ -2,7 +2,7 @@
 use Rattle.std.specs.Prelude.{ℕ, if◌then◌else◌, List, [], ◌∷◌, codes}
 use Rattle.rh_defs.specs.declared.refusal.Refusal.{Refusal}
 use Rattle.rh_defs.specs.declared.refusal.Refusal.TheVariants.{NameInUse, NoName, TooManyTasks, NoHandles, NoFile, NoBlock, AnchorInUse, NotABlock, NotYours, Busy, NotOpen, NothingSent, BadRange, BadSize, ExcessiveShrink, NoTask, NoRefs, QueueFull, NoBudge, NoRoom, NoArea, TooManyAreas, NoNumbers, TooBig, WrongManner, BadRef}
-use Rattle.rh_explained.specs.CommandKinds.{is_of_programs}
+use Rattle.rh_explained.specs.CommandKinds.{is_of_bytes, is_of_programs}
 use Rattle.rh_explained.specs.declared.command_kind.CommandKind.{CommandKind}
 use Rattle.rh_explained.specs.declared.command_kind.CommandKind.TheVariants as kind
 
@@ -80,11 +80,19 @@ program_why Busy = codes "there is a scrap file already"
 program_why BadRange = codes "no block has these bytes, or their place isn't open"
 program_why refusal = why refusal
 
+-- why a command on bytes at an address is refused
+abbrev pub bytes_why : Refusal → List ℕ
+bytes_why BadRange = codes "no live block has these bytes"
+bytes_why refusal = why refusal
+
 -- why a command of a kind is refused
 abbrev pub why_for : CommandKind → Refusal → List ℕ
-why_for kind refusal = if is_of_programs kind then program_why refusal else why refusal
+why_for kind refusal =
+    if is_of_bytes kind then bytes_why refusal
+    else if is_of_programs kind then program_why refusal
+    else why refusal
 
--- what helps then, where that is clear
+-- what helps then, where that is clear and the same for all kinds of commands
 abbrev pub help_for : Refusal → List ℕ
 help_for NameInUse = codes "  take another name, or kill that task first\n"
 help_for NoName = codes "  start it by task NAME BUF; upper and lower case differ\n"
@@ -110,7 +118,7 @@ help_for NoArea = codes "  areas lists the numbers, and make makes an area\n"
 help_for TooManyAreas = codes "  remove an area first\n"
 help_for NoNumbers = []
 help_for TooBig = codes "  make an area that may have more by make MAX\n"
-help_for WrongManner = codes "  raw tasks send by send or spool, and others by save\n"
+help_for WrongManner = []
 help_for BadRef = codes "  0 answers nothing\n"
 
 -- what helps with a command of a task with code of its own
@@ -119,6 +127,34 @@ program_help NoFile = codes "  poll takes it, where one waits\n"
 program_help Busy = codes "  it goes when its DataLoad is loaded or answered\n"
 program_help BadRange = codes "  heap and blocks list blocks; RAMFetch opens a buffer to its recipient\n"
 program_help refusal = help_for refusal
+
+-- what helps with a command on bytes at an address
+abbrev pub bytes_help : Refusal → List ℕ
+bytes_help BadRange = codes "  heap and blocks list the task's blocks\n"
+bytes_help refusal = help_for refusal
+
+-- what helps where a command isn't for tasks of the manner
+abbrev pub manner_help : CommandKind → List ℕ
+manner_help kind.Save = codes "  save isn't for raw tasks; they send by send or spool\n"
+manner_help kind.Send = codes "  send is for raw tasks; others offer files by save\n"
+manner_help kind.Write = codes "  write is for raw tasks; others write by put\n"
+manner_help kind.Transfer = codes "  transfer is for raw tasks; a poll moves the bytes of others\n"
+manner_help kind.Ack = codes "  ack is for raw tasks; a poll answers for others\n"
+manner_help kind.Spool = codes "  spool is for raw tasks; others offer files by save\n"
+manner_help kind.Scrap = codes "  scrap is for raw tasks; a poll loads the scrap file for others\n"
+manner_help kind = []
+
+-- what helps with a command of a kind but where it isn't for tasks of the manner
+abbrev pub other_help : CommandKind → Refusal → List ℕ
+other_help kind refusal =
+    if is_of_bytes kind then bytes_help refusal
+    else if is_of_programs kind then program_help refusal
+    else help_for refusal
+
+-- what helps with a command of a kind
+abbrev pub kind_help : CommandKind → Refusal → List ℕ
+kind_help kind WrongManner = manner_help kind
+kind_help kind refusal = other_help kind refusal
 
 -- the refusals that commands of a kind can have
 abbrev pub refusals : CommandKind → List Refusal

@@ -4,8 +4,10 @@ ghost use Rattle.std.specs.Prelude.{◌≡◌};
 ghost use Rattle.std.specs.Str.{bytes_eq};
 ghost use Rattle.rh_explained.specs.CommandKinds.{area_kind, flex_kind, heap_kind, kind_at as kind_of_word, kind_named};
 ghost use Rattle.rh_explained.specs.CommandKinds.{own_words as words_of_own, program_kind, rma_kind, task_kind};
+ghost use Rattle.rh_explained.specs.CommandKinds.{is_of_bytes as is_of_bytes_kind};
 ghost use Rattle.rh_explained.specs.CommandKinds.{is_of_programs as is_of_programs_kind, word_kinds as kinds_of_words};
 ghost use Rattle.rh_explained.specs.Explanations.{kind_in};
+ghost use Rattle.rh_explained.specs.KindTable.{kind_of};
 
 use crate::word_kind::WordKind;
 use crate::word_kind::WordKind::{
@@ -14,6 +16,7 @@ use crate::word_kind::WordKind::{
     Size, Switch, TaskName,
 };
 use crate::words::word_of;
+use rh_defs::{Command, Question, RawCommand};
 
 /// A kind of command, by the words that name it.
 #[derive(Clone, Copy)]
@@ -83,6 +86,66 @@ impl CommandKind {
         program_kind(first)
     }
 
+    /// The kind of a command.
+    pub fn of(command: &Command) -> CommandKind
+        ensures { result ≡ kind_of command.now }
+    {
+        match command {
+            Command::Task { .. } => CommandKind::Task,
+            Command::Kill { .. } => CommandKind::Kill,
+            Command::Alloc { .. } => CommandKind::Alloc,
+            Command::Load { .. } => CommandKind::Load,
+            Command::Put { .. } => CommandKind::Put,
+            Command::Free { .. } => CommandKind::Free,
+            Command::Extend { .. } => CommandKind::Extend,
+            Command::Mid { .. } => CommandKind::Mid,
+            Command::Claim { .. } => CommandKind::Claim,
+            Command::Release { .. } => CommandKind::Release,
+            Command::Resize { .. } => CommandKind::Resize,
+            Command::Budge { .. } => CommandKind::Budge,
+            Command::Save { .. } => CommandKind::Save,
+            Command::Poll { .. } => CommandKind::Poll,
+            Command::CancelIn { .. } | Command::CancelOut { .. } => CommandKind::Cancel,
+            Command::Repeat { .. } => CommandKind::Repeat,
+            Command::Area { .. } => CommandKind::Area,
+            Command::Make { .. } => CommandKind::Make,
+            Command::Remove { .. } => CommandKind::Remove,
+            Command::RmaClaim { .. } => CommandKind::RmaClaim,
+            Command::RmaFree { .. } => CommandKind::RmaFree,
+            Command::RmaResize { .. } => CommandKind::RmaResize,
+            Command::Raw(command) => CommandKind::of_raw(command),
+            Command::Ask(question) => CommandKind::of_question(question),
+        }
+    }
+
+    /// The kind of a command of a task with code of its own.
+    fn of_raw(command: &RawCommand) -> CommandKind
+        ensures { result ≡ kind_of (Command.Raw command.now) }
+    {
+        match command {
+            RawCommand::Send { .. } => CommandKind::Send,
+            RawCommand::Write { .. } => CommandKind::Write,
+            RawCommand::Transfer { .. } => CommandKind::Transfer,
+            RawCommand::Ack { .. } => CommandKind::Ack,
+            RawCommand::Spool { .. } => CommandKind::Spool,
+            RawCommand::Scrap { .. } => CommandKind::Scrap,
+        }
+    }
+
+    /// The kind of a question.
+    fn of_question(question: &Question) -> CommandKind
+        ensures { result ≡ kind_of (Command.Ask question.now) }
+    {
+        match question {
+            Question::Show { .. } => CommandKind::Show,
+            Question::Read { .. } => CommandKind::Read,
+            Question::Blocks { .. } => CommandKind::Blocks,
+            Question::Heap { .. } => CommandKind::Heap,
+            Question::Status { .. } => CommandKind::Status,
+            Question::Areas => CommandKind::Areas,
+        }
+    }
+
     /// The kinds of the words behind those that name it.
     pub fn word_kinds(self) -> &'static [WordKind]
         ensures { result.now ≡ kinds_of_words self }
@@ -121,6 +184,13 @@ impl CommandKind {
             CommandKind::Transfer => &[TaskName, Address, Handle, Address, Size],
             CommandKind::Spool => &[TaskName, Anchor, Handle, AnsweredRef],
         }
+    }
+
+    /// Whether it is about bytes at an address of its own task's slot.
+    pub fn is_of_bytes(self) -> bool
+        ensures { result ≡ is_of_bytes_kind self }
+    {
+        matches!(self, CommandKind::Read | CommandKind::Write)
     }
 
     /// Whether it is about tasks with code of their own alone.

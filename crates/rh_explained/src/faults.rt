@@ -23,7 +23,7 @@ pub fn put_bad_line<P: Pen>(number: u32, line: &[u8], fault: &LineFault, pen: &m
     match oddity_at(line, fault) {
         Some(odd) => {
             odd.put(pen);
-            put_below(line, odd.help(), pen);
+            put_below(line, b"", pen);
         }
         None => {
             put_fault_says(line, fault, pen);
@@ -64,8 +64,8 @@ fn put_fault_says<P: Pen>(line: &[u8], fault: &LineFault, pen: &mut P)
     ensures { P.offered pen.new ≡ P.offered pen.old ++ fault_says line.now fault.now }
 {
     match fault {
-        LineFault::TooLong => pen.put(b" has more than 1024 bytes"),
-        LineFault::Unended => pen.put(b" is cut: the script ends without a line feed"),
+        LineFault::TooLong => pen.put(b": more than 1024 bytes"),
+        LineFault::Unended => pen.put(b": cut, as the script ends without a line feed"),
         LineFault::Unknown => {
             put_word(line, 1, pen);
             pen.put(b": no command has this name");

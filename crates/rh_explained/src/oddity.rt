@@ -1,7 +1,7 @@
 //! What is odd about a bad line.
 
 ghost use Rattle.std.specs.Prelude.{◌≡◌, ◌++◌, find};
-ghost use Rattle.rh_explained.specs.Explanations.{foreign_says, is_foreign, odd_help, odd_says, oddity as odd_of};
+ghost use Rattle.rh_explained.specs.Explanations.{foreign_says, is_foreign, odd_says, oddity as odd_of};
 
 use crate::numbers::put_address;
 use rh_lines::Pen;
@@ -36,36 +36,27 @@ impl Oddity {
         }
     }
 
-    /// Says it.
+    /// Says it, and what helps.
     pub fn put<P: Pen>(self, pen: &mut P)
         ensures { P.offered pen.new ≡ P.offered pen.old ++ odd_says self }
     {
         match self {
-            Oddity::Return => pen.put(b" ends in a carriage return"),
-            Oddity::Tab => pen.put(b" has a tab"),
+            Oddity::Return => {
+                pen.put(b": a carriage return at its end; end lines with a line feed alone");
+            }
+            Oddity::Tab => pen.put(b": a tab; part words by spaces"),
             Oddity::Foreign(byte) => put_foreign(byte, pen),
-        }
-    }
-
-    /// What helps.
-    pub fn help(self) -> &'static [u8]
-        ensures { result.now ≡ odd_help self }
-    {
-        match self {
-            Oddity::Return => b"  end lines with a line feed alone\n",
-            Oddity::Tab => b"  part words by spaces\n",
-            Oddity::Foreign(_) => b"  words have characters from ! to ~ alone\n",
         }
     }
 }
 
-/// Says which byte no word may have.
+/// Says which byte no word may have, and which bytes words have.
 fn put_foreign<P: Pen>(byte: u8, pen: &mut P)
     ensures { P.offered pen.new ≡ P.offered pen.old ++ foreign_says byte }
 {
-    pen.put(b" has the byte ");
+    pen.put(b": the byte ");
     put_address(u32::from(byte), pen);
-    pen.put(b", which no word may have");
+    pen.put(b"; words have characters from ! to ~ alone");
 }
 
 fn first_foreign(line: &[u8]) -> Option<u8>

@@ -3,14 +3,15 @@
 ghost use Rattle.std.specs.Prelude.{◌≡◌, ◌++◌};
 ghost use Rattle.std.specs.Option.{option_map};
 ghost use Rattle.rh_explained.specs.Explanations.{busy_says, detail, detail_address, detail_name, detail_number};
-ghost use Rattle.rh_explained.specs.Explanations.{detail_size, help_of as help_of_command, own_reason, program_reason};
-ghost use Rattle.rh_explained.specs.Explanations.{reason, refusal_explained, use_says};
+ghost use Rattle.rh_explained.specs.Explanations.{detail_size, is_busy as is_about_busy, reason, refusal_explained};
+ghost use Rattle.rh_explained.specs.Explanations.{use_says};
 
 use crate::block_use::BlockUse;
+use crate::command_kind::CommandKind;
 use crate::facts::Facts;
 use crate::faults::{put_below, put_number};
 use crate::numbers::{put_address, put_decimal};
-use crate::sentences::{help_for, program_help, program_why, why};
+use crate::sentences::{kind_help, why, why_for};
 use crate::subjects::{address_in, anchor_in, area_in, loaded_file, recipient_in};
 use rh_defs::{Anchor, Command, Name, Refusal};
 use rh_lines::Pen;
@@ -26,50 +27,35 @@ pub fn put_refused<P: Pen>(
 )
     ensures { P.offered pen.new ≡ P.offered pen.old ++ refusal_explained facts.now number line.now command.now refusal }
 {
+    let kind = CommandKind::of(command);
     put_number(number, pen);
     pen.put(b": ");
-    put_reason(facts, command, refusal, pen);
-    put_below(line, help_of(command, refusal), pen);
+    put_reason(kind, facts, command, refusal, pen);
+    put_below(line, kind_help(kind, refusal), pen);
 }
 
-/// What helps with a refused command.
-fn help_of(command: &Command, refusal: Refusal) -> &'static [u8]
-    ensures { result.now ≡ help_of_command command.now refusal }
+/// Says why a command of a kind was refused.
+fn put_reason<P: Pen>(
+    kind: CommandKind,
+    facts: &Facts,
+    command: &Command,
+    refusal: Refusal,
+    pen: &mut P,
+)
+    ensures { P.offered pen.new ≡ P.offered pen.old ++ reason kind facts.now command.now refusal }
 {
-    match command {
-        Command::Raw(_) => program_help(refusal),
-        _ => help_for(refusal),
-    }
-}
-
-/// Says why a command was refused.
-fn put_reason<P: Pen>(facts: &Facts, command: &Command, refusal: Refusal, pen: &mut P)
-    ensures { P.offered pen.new ≡ P.offered pen.old ++ reason facts.now command.now refusal }
-{
-    match command {
-        Command::Raw(_) => put_program_reason(facts, command, refusal, pen),
-        _ => put_own_reason(facts, command, refusal, pen),
-    }
-}
-
-/// Says why a command but those of tasks with code of their own was refused.
-fn put_own_reason<P: Pen>(facts: &Facts, command: &Command, refusal: Refusal, pen: &mut P)
-    ensures { P.offered pen.new ≡ P.offered pen.old ++ own_reason facts.now command.now refusal }
-{
-    if let Refusal::Busy = refusal {
+    if is_busy(refusal) && !kind.is_of_programs() {
         put_busy(facts.used, pen);
     } else {
-        pen.put(why(refusal));
+        pen.put(why_for(kind, refusal));
         put_detail(facts, command, refusal, pen);
     }
 }
 
-/// Says why a command of a task with code of its own was refused.
-fn put_program_reason<P: Pen>(facts: &Facts, command: &Command, refusal: Refusal, pen: &mut P)
-    ensures { P.offered pen.new ≡ P.offered pen.old ++ program_reason facts.now command.now refusal }
+fn is_busy(refusal: Refusal) -> bool
+    ensures { result ≡ is_about_busy refusal }
 {
-    pen.put(program_why(refusal));
-    put_detail(facts, command, refusal, pen);
+    matches!(refusal, Refusal::Busy)
 }
 
 /// Says what is busy.

@@ -1,9 +1,11 @@
 //! Why commands are refused, in words, and what helps.
 
 ghost use Rattle.std.specs.Prelude.{◌≡◌};
-ghost use Rattle.rh_explained.specs.Sentences.{help_for as help_text, program_help as program_help_text};
-ghost use Rattle.rh_explained.specs.Sentences.{program_why as program_why_text, why as why_text};
-ghost use Rattle.rh_explained.specs.Sentences.{why_for as why_for_text};
+ghost use Rattle.rh_explained.specs.Sentences.{bytes_help as bytes_help_text, bytes_why as bytes_why_text};
+ghost use Rattle.rh_explained.specs.Sentences.{help_for as help_text, kind_help as kind_help_text};
+ghost use Rattle.rh_explained.specs.Sentences.{manner_help as manner_help_text, other_help as other_help_text};
+ghost use Rattle.rh_explained.specs.Sentences.{program_help as program_help_text, program_why as program_why_text};
+ghost use Rattle.rh_explained.specs.Sentences.{why as why_text, why_for as why_for_text};
 
 use crate::command_kind::CommandKind;
 use rh_defs::Refusal;
@@ -43,7 +45,7 @@ pub fn why(refusal: Refusal) -> &'static [u8]
 }
 
 /// Why a command of a task with code of its own is refused.
-pub fn program_why(refusal: Refusal) -> &'static [u8]
+fn program_why(refusal: Refusal) -> &'static [u8]
     ensures { result.now ≡ program_why_text refusal }
 {
     match refusal {
@@ -54,19 +56,31 @@ pub fn program_why(refusal: Refusal) -> &'static [u8]
     }
 }
 
+/// Why a command on bytes at an address is refused.
+fn bytes_why(refusal: Refusal) -> &'static [u8]
+    ensures { result.now ≡ bytes_why_text refusal }
+{
+    match refusal {
+        Refusal::BadRange => b"no live block has these bytes",
+        _ => why(refusal),
+    }
+}
+
 /// Why a command of a kind is refused.
 pub fn why_for(kind: CommandKind, refusal: Refusal) -> &'static [u8]
     ensures { result.now ≡ why_for_text kind refusal }
 {
-    if kind.is_of_programs() {
+    if kind.is_of_bytes() {
+        bytes_why(refusal)
+    } else if kind.is_of_programs() {
         program_why(refusal)
     } else {
         why(refusal)
     }
 }
 
-/// What helps then, where that is clear.
-pub fn help_for(refusal: Refusal) -> &'static [u8]
+/// What helps then, where that is clear and the same for all kinds of commands.
+fn help_for(refusal: Refusal) -> &'static [u8]
     ensures { result.now ≡ help_text refusal }
 {
     match refusal {
@@ -94,13 +108,13 @@ pub fn help_for(refusal: Refusal) -> &'static [u8]
         Refusal::TooManyAreas => b"  remove an area first\n",
         Refusal::NoNumbers => b"",
         Refusal::TooBig => b"  make an area that may have more by make MAX\n",
-        Refusal::WrongManner => b"  raw tasks send by send or spool, and others by save\n",
+        Refusal::WrongManner => b"",
         Refusal::BadRef => b"  0 answers nothing\n",
     }
 }
 
 /// What helps then with a command of a task with code of its own.
-pub fn program_help(refusal: Refusal) -> &'static [u8]
+fn program_help(refusal: Refusal) -> &'static [u8]
     ensures { result.now ≡ program_help_text refusal }
 {
     match refusal {
@@ -109,5 +123,54 @@ pub fn program_help(refusal: Refusal) -> &'static [u8]
         Refusal::BadRange =>
             b"  heap and blocks list blocks; RAMFetch opens a buffer to its recipient\n",
         _ => help_for(refusal),
+    }
+}
+
+/// What helps then with a command on bytes at an address.
+fn bytes_help(refusal: Refusal) -> &'static [u8]
+    ensures { result.now ≡ bytes_help_text refusal }
+{
+    match refusal {
+        Refusal::BadRange => b"  heap and blocks list the task's blocks\n",
+        _ => help_for(refusal),
+    }
+}
+
+/// What helps where a command isn't for tasks of the manner.
+fn manner_help(kind: CommandKind) -> &'static [u8]
+    ensures { result.now ≡ manner_help_text kind }
+{
+    match kind {
+        CommandKind::Save => b"  save isn't for raw tasks; they send by send or spool\n",
+        CommandKind::Send => b"  send is for raw tasks; others offer files by save\n",
+        CommandKind::Write => b"  write is for raw tasks; others write by put\n",
+        CommandKind::Transfer => b"  transfer is for raw tasks; a poll moves the bytes of others\n",
+        CommandKind::Ack => b"  ack is for raw tasks; a poll answers for others\n",
+        CommandKind::Spool => b"  spool is for raw tasks; others offer files by save\n",
+        CommandKind::Scrap => b"  scrap is for raw tasks; a poll loads the scrap file for others\n",
+        _ => b"",
+    }
+}
+
+/// What helps with a command of a kind but where it isn't for tasks of the manner.
+fn other_help(kind: CommandKind, refusal: Refusal) -> &'static [u8]
+    ensures { result.now ≡ other_help_text kind refusal }
+{
+    if kind.is_of_bytes() {
+        bytes_help(refusal)
+    } else if kind.is_of_programs() {
+        program_help(refusal)
+    } else {
+        help_for(refusal)
+    }
+}
+
+/// What helps with a refused command of a kind.
+pub fn kind_help(kind: CommandKind, refusal: Refusal) -> &'static [u8]
+    ensures { result.now ≡ kind_help_text kind refusal }
+{
+    match refusal {
+        Refusal::WrongManner => manner_help(kind),
+        _ => other_help(kind, refusal),
     }
 }

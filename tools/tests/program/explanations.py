@@ -19,6 +19,8 @@ EXAMPLES = TOP / "examples"
 # A script's last line, and what is said of it. Before it stand the lines of BEFORE.
 BEFORE = ["task a 100", "task b 100", "alloc a 0 5", "alloc a 1 5", "save a 0 b doc", "poll b"]
 NUMBER = len(BEFORE) + 1
+# Why a command is refused that isn't for tasks of the manner that its task has.
+MANNER = "this isn't for tasks of its manner"
 LINES = [
     # Bad lines.
     ("tsk a", ', word 1 "tsk": no command has this name', None),
@@ -54,12 +56,14 @@ LINES = [
     ("send a 18 1 0 9 010203", ', word 7 "010203": data are hexadecimal digits, eight for each word, or left out', None),
     ("transfer a &8114 2 &8114", ": expected transfer NAME ADDR HANDLE ADDR N", None),
     ("  areas   1 ", ": expected areas", None),
-    ("areas\r", " ends in a carriage return", "end lines with a line feed alone"),
-    ("\r", " ends in a carriage return", "end lines with a line feed alone"),
-    ("\tareas", " has a tab", "part words by spaces"),
-    ("blocks\xa0a", " has the byte &C2, which no word may have", "words have characters from ! to ~ alone"),
-    ("heap a\x1b", " has the byte &1B, which no word may have", "words have characters from ! to ~ alone"),
-    ("#" * 1025, " has more than 1024 bytes", "several lines may write what one may not: put NAME A OFF HEX"),
+    ("areas\r", ": a carriage return at its end; end lines with a line feed alone", None),
+    ("\r", ": a carriage return at its end; end lines with a line feed alone", None),
+    ("\tareas", ": a tab; part words by spaces", None),
+    ("areas\t", ": a tab; part words by spaces", None),
+    ("areas\r 1", ": the byte &D; words have characters from ! to ~ alone", None),
+    ("blocks\xa0a", ": the byte &C2; words have characters from ! to ~ alone", None),
+    ("heap a\x1b", ": the byte &1B; words have characters from ! to ~ alone", None),
+    ("#" * 1025, ": more than 1024 bytes", "several lines may write what one may not: put NAME A OFF HEX"),
     # Refused commands.
     ("task a 5", ": a live task has this name already: a", "take another name, or kill that task first"),
     ("blocks z", ": no live task has this name: z", "start it by task NAME BUF; upper and lower case differ"),
@@ -85,9 +89,13 @@ LINES = [
     ("alloc a 2 2147483647", ": the pool has too few free pages: 59",
      "areas lists the pages; free some, or begin with more by --pages"),
     ("area 300 1", ": no area has this number: 300", "areas lists the numbers, and make makes an area"),
-    ("send a 17 2 0 9", ": this isn't for tasks of its manner", "raw tasks send by send or spool, and others by save"),
-    ("ack b", ": this isn't for tasks of its manner", "raw tasks send by send or spool, and others by save"),
-    ("read a &9008 6", ": offset or bytes lie outside the block", "blocks lists the sizes, and extend makes a block longer"),
+    ("send a 17 2 0 9", f": {MANNER}", "send is for raw tasks; others offer files by save"),
+    ("ack b", f": {MANNER}", "ack is for raw tasks; a poll answers for others"),
+    ("write a &9008 00", f": {MANNER}", "write is for raw tasks; others write by put"),
+    ("spool a 1 2 0", f": {MANNER}", "spool is for raw tasks; others offer files by save"),
+    ("read a &9008 6", ": no live block has these bytes", "heap and blocks list the task's blocks"),
+    ("read a &8114 1", ": no live block has these bytes", "heap and blocks list the task's blocks"),
+    ("write b &9007 00", ": no live block has these bytes", "heap and blocks list the task's blocks"),
 ]
 
 # Scripts whose last command is refused for what many commands bring, what is said of it, and what helps.
@@ -108,8 +116,8 @@ TOO_MANY = [
 ]
 # Scripts of tasks with code of their own whose last command is refused, what is said of it, and what helps.
 PROGRAMS = [
-    (["task a 100", "task r 1 raw", "alloc r 0 5", "save r 0 a doc"], ": this isn't for tasks of its manner",
-     "raw tasks send by send or spool, and others by save"),
+    (["task a 100", "task r 1 raw", "alloc r 0 5", "save r 0 a doc"], f": {MANNER}",
+     "save isn't for raw tasks; they send by send or spool"),
     (["task a 100", "task r 1 raw", "send r 17 1 1 9"], ": no message has this ref yet", "0 answers nothing"),
     (["task r 1 raw", "send r 17 2 0 9"], ": the task that this is for isn't live", "start the recipient first"),
 ]
@@ -118,15 +126,19 @@ OWN_REASONS = [
     (["task a 100", "task r 1 raw", "alloc r 0 5", "transfer r &9008 1 &8114 5"],
      ": no block has these bytes, or their place isn't open",
      "heap and blocks list blocks; RAMFetch opens a buffer to its recipient"),
-    (["task r 1 raw", "alloc r 0 5", "write r &9008 000000000000"],
-     ": no block has these bytes, or their place isn't open",
-     "heap and blocks list blocks; RAMFetch opens a buffer to its recipient"),
+    (["task r 1 raw", "alloc r 0 5", "write r &9008 000000000000"], ": no live block has these bytes",
+     "heap and blocks list the task's blocks"),
+    (["task a 100", "task r 1 raw", "claim r 8", "send r 18 1 0 6 1481000004000000", "poll a", "alloc a 0 4",
+      "transfer a &9008 2 &8114 4"], f": {MANNER}", "transfer is for raw tasks; a poll moves the bytes of others"),
+    (["task a 100", "task r 1 raw", "alloc r 0 5", "spool r 0 1 0", "poll a", "scrap a 1"], f": {MANNER}",
+     "scrap is for raw tasks; a poll loads the scrap file for others"),
     (["task a 100", "task r 1 raw", "alloc r 0 5", "spool r 0 1 0", "spool r 0 1 0"], ": there is a scrap file already",
      "it goes when its DataLoad is loaded or answered"),
     (["task r 1 raw", "scrap r 0"], ": the task doesn't hold the message about a scrap file", "poll takes it, where one waits"),
 ]
-# The commands of tasks with code of their own alone.
+# The commands of tasks with code of their own alone, and those on bytes at an address, which come first.
 OF_PROGRAMS = ["send", "write", "transfer", "ack", "spool", "scrap"]
+OF_BYTES = ["read", "write"]
 # Refusals that no script brings whose length a test could have: 4,294,967,295 tasks or messages stand before them.
 FAR = {"NoHandles", "NoRefs"}
 
@@ -164,9 +176,9 @@ def test_lines_one_after_the_other(suite):
 def test_cut_lines(suite):
     """A line that was cut is explained, long or short."""
     for line, said, helps in [
-        ("areas", " is cut: the script ends without a line feed", "end the last line with a line feed"),
-        ("areas\r", " is cut: the script ends without a line feed", "end the last line with a line feed"),
-        ("a" * 1025, " has more than 1024 bytes", "several lines may write what one may not: put NAME A OFF HEX"),
+        ("areas", ": cut, as the script ends without a line feed", "end the last line with a line feed"),
+        ("areas\r", ": cut, as the script ends without a line feed", "end the last line with a line feed"),
+        ("a" * 1025, ": more than 1024 bytes", "several lines may write what one may not: put NAME A OFF HEX"),
     ]:
         wanted = explained(2, line, said, helps).encode()
         suite.ends(f"explain a cut {line[:8]}", ["explain", "-"], wanted, b"", 1, stdin=f"areas\n{line}".encode())
@@ -243,8 +255,8 @@ def forms_in(head):
 
 def test_help_of_commands(suite):
     """The help of a command has its forms, what it does and why it may be refused, as documents and definitions have it."""
-    refusals, own = refusals_of_definitions(), refusals_of_definitions("program_why")
-    suite.is_true("all refusals are said", len(refusals) == 26 and len(own) == 3)
+    refusals, own, of_bytes = (refusals_of_definitions(it) for it in ("why", "program_why", "bytes_why"))
+    suite.is_true("all refusals are said", (len(refusals), len(own), len(of_bytes)) == (26, 3, 1))
     for command in commands_of_docs():
         told, status = suite.run(["help", *command])[1:]
         head, deed, others = help_of(suite, command)
@@ -253,7 +265,7 @@ def test_help_of_commands(suite):
         suite.is_true(f"help {command}: forms", forms_in(head) == forms)
         suite.is_true(f"help {command}: deed", re.fullmatch(r"[A-Z].*\.", deed) is not None)
         said = [re.fullmatch(r"  refused (\w+): (.*)", it) for it in others if it.startswith("  refused ")]
-        wanted = refusals | (own if command[0] in OF_PROGRAMS else {})
+        wanted = refusals | (of_bytes if command[0] in OF_BYTES else own if command[0] in OF_PROGRAMS else {})
         suite.is_true(f"help {command}: refusals", all(it and wanted.get(it[1]) == it[2] for it in said))
         names = [it[1] for it in said if it]
         suite.is_true(f"help {command}: order", names == [it for it in refusals if it in names])
@@ -274,13 +286,24 @@ def test_refusals_of_examples_are_in_the_help(suite):
     os.chdir(here)
 
 
+def reason_of(command, refusal):
+    """Why a command is refused and what helps, as the page has it: its own reason, or that of all commands."""
+    return command["reasons"].get(refusal) or TABLE["refusals"][refusal]
+
+
+def kind_of(line):
+    """What the page has of the command of a line."""
+    words = line.split()
+    own = words[:2] if words[0] == "rma" else words[:1]
+    return next(it for it in TABLE["commands"].values() if it["own"] == own)
+
+
 def test_help_is_made_of_the_pages_table(suite):
     """What the page has of each kind of command is what the program's help says of it."""
     helps = {" ".join(it["own"]): it for it in TABLE["commands"].values()}
     suite.is_true("the page has all commands", sorted(helps) == sorted(map(" ".join, commands_of_docs())))
     for name, command in helps.items():
-        own = TABLE["ofPrograms"] if name in OF_PROGRAMS else {}
-        refused = [f"  refused {it}: {(own.get(it) or TABLE['refusals'][it])['why']}" for it in command["refusals"]]
+        refused = [f"  refused {it}: {reason_of(command, it)['why']}" for it in command["refusals"]]
         words = [f"  {TABLE['words'][it]}" for it in command["words"]]
         wanted = command["expected"], command["does"], [*words, *refused]
         suite.is_true(f"the page on {name}", help_of(suite, name.split()) == wanted)
@@ -299,13 +322,13 @@ def texts_in(value):
 def test_explanations_have_the_pages_sentences(suite):
     """What the page has of refusals and of bad lines is what the program writes of them, and each refusal is met."""
     written, met = suite.run(["explain", "-"], stdin=b"areas")[0].decode(), set()
-    for lines in [*([*BEFORE, line] for line, *_ in LINES), *(lines for lines, *_ in (*TOO_MANY, *PROGRAMS))]:
+    for lines in [*([*BEFORE, line] for line, *_ in LINES), *(lines for lines, *_ in (*TOO_MANY, *PROGRAMS, *OWN_REASONS))]:
         reply, told = (suite.run([it, "-"], stdin=script_of(*lines))[0].decode() for it in ("run", "explain"))
         written += told
         outcome, name = reply.splitlines()[-1].split()[:2]
         if outcome == "refused":
             met.add(name)
-            refusal = TABLE["refusals"][name]
+            refusal = reason_of(kind_of(lines[-1]), name)
             head, _, *helps = told.splitlines()
             reason = next((it for it in (TABLE["allBusy"],) if it in head), refusal["why"])
             suite.is_true(f"the page on {head}", head.startswith(f"line {len(lines)}: {reason}")

@@ -8,8 +8,8 @@ three o a b c = append_assoc (o ++ a) b c ∙ append_assoc o a (b ++ c)
 
 pub returns : goal.returns
 returns g c =
-    let front = codes " has the byte " in
-    let back = codes ", which no word may have" in
+    let front = codes ": the byte " in
+    let back = codes "; words have characters from ! to ~ alone" in
     let old = g.P.Pen.offered c.args.pen.now in
     let same : c.from.result ≡ c.args.byte = search rules in
     c.put-2.ensures
