@@ -45,6 +45,9 @@ HELP = [
 ]
 # Numbers of pages, and how many are free where nothing has begun.
 NUMBERS = [("8", 7), ("64", 63), ("100", 99), ("129", 128), ("256", 255), ("1024", 1023)]
+# Of numbers of pages each so manieth is tried; and so many pages are taken where one task lives.
+STEP_OF_PAGES = 31
+TAKEN = 2
 
 
 def begins(suite, words, wanted, **how):
@@ -164,6 +167,17 @@ def test_each_number_of_pages_is_had(suite):
             begins(suite, ["run", "--pages", pages, script], b"ok %d\n" % free, stdin=b"areas\n")
         begins(suite, ["run", script], b"ok 63\n", stdin=b"areas\n")
     begins(suite, [], b"ok 63\n", stdin=b"areas\n")
+
+
+def test_each_way_to_show_a_script_has_its_pages(suite):
+    """A run, its explanations, its map and its sheet have as many pages as are asked for, from the fewest to the most."""
+    script = b"task a 1\nareas\nalloc a 0 2147483647\n"
+    for pages in [*range(8, 1024, STEP_OF_PAGES), 1023, 1024]:
+        for verb in SCRIPT_VERBS:
+            shown = b"too few free pages: %d\n" if verb == "explain" else b"ok %d\n"
+            output, told, status = suite.run([verb, "--pages", str(pages), "-"], stdin=script)
+            suite.is_true(f"{verb} has {pages} pages", shown % (pages - TAKEN) in output
+                          and (told, status) == (b"", int(verb == "explain")))
 
 
 def test_a_long_script_is_run(suite):
