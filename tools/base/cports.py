@@ -304,15 +304,15 @@ def run_all(port):
     compiling, linking = flags_of(port)
     there = [it for it in COMPILERS if port.has(it, f"programs by {it}")]
     with concurrent.futures.ThreadPoolExecutor(processors.usable()) as pool:
-        call = lambda *words: pool.submit(port.after, *words)
-        for made in [call(compile_shim, port, it, path, compiling) for it in there for path in shims(port)]:
+        begun = lambda call, *words: pool.submit(port.after, call, port, *words)
+        for made in [begun(compile_shim, it, path, compiling) for it in there for path in shims(port)]:
             made.result()
-        calls = [call(try_example, port, it, name, compiling, linking) for it in there for name in examples(port.top)]
-        calls += [call(try_standard, port, it, standard, compiling)
+        calls = [begun(try_example, it, name, compiling, linking) for it in there for name in examples(port.top)]
+        calls += [begun(try_standard, it, standard, compiling)
                   for it in there for standard in STANDARDS[COMPILERS[it]]]
-        calls.append(call(try_page, port, compiling))
-        calls += [call(it, port) for it in (try_command, try_machines, try_names, try_cmake, try_python,
-                                            try_examples_in_python)]
+        calls.append(begun(try_page, compiling))
+        calls += [begun(it) for it in (try_command, try_machines, try_names, try_cmake, try_python,
+                                       try_examples_in_python)]
     for it in calls:
         try:
             it.result()

@@ -61,7 +61,7 @@ class Suite:
             self.tried += 1
 
     def ran(self, what, words, **how):
-        """Runs a command, counts it, and gives what it printed, or nothing where it failed. One that is too slow raises."""
+        """Runs a command, counts it, and gives what it printed; nothing where it failed. What is too slow raises."""
         self.count()
         try:
             ran = pace.run(words, MOST, capture_output=True, cwd=self.top, **how)
@@ -242,17 +242,17 @@ def try_shim(suite):
 
 
 def run_all(suite, others):
-    """All tests in C behind others, which have several commands each, as many side by side as there are processors; gives
-    how many tests in C there are."""
+    """All tests in C after others, which have several commands each, one for each processor at a time; gives how many
+    tests in C there are."""
     tests = sorted(glob.glob("c/tests/*.c", root_dir=suite.top))
     # The way that costs most goes first.
     ways = list(reversed(suite.ways))
     with concurrent.futures.ThreadPoolExecutor(processors.usable()) as pool:
-        plainly = [pool.submit(suite.after, compile_plain, suite, path, way) for way in ways for path in plain(suite)]
-        for made in plainly:
+        begun = lambda call, *words: pool.submit(suite.after, call, suite, *words)
+        for made in [begun(compile_plain, path, way) for way in ways for path in plain(suite)]:
             made.result()
-        calls = [pool.submit(suite.after, it, suite) for it in others]
-        calls += [pool.submit(suite.after, try_test, suite, path, way) for way in ways for path in tests]
+        calls = [begun(it) for it in others]
+        calls += [begun(try_test, path, way) for way in ways for path in tests]
     for it in calls:
         it.result()
     return len(tests)

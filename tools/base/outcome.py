@@ -11,8 +11,8 @@ LINE = re.compile(rf"(?P<what>.+): (?P<tests>\d+) tests, (?P<failed>\d+) failed(
 
 
 def told(what, tests, failed, slow=()):
-    """Tells what was too slow, and how many tests ran, failed and were too slow; gives the exit status: 0 only where some
-    ran and each passed."""
+    """Tells what was too slow, and how many tests ran, failed and were too slow; gives the exit status: 0 only where
+    some ran and each passed."""
     for it in slow:
         print(f"{it}: {TOO_SLOW}")
     print(f"{what}: {tests} tests, {failed} failed" + (f", {len(slow)} {TOO_SLOW}" if slow else ""))

@@ -1,8 +1,8 @@
 """Limits of what commands take: seconds of a processor, as on a reference machine. None goes by the clock.
 
 usage: python3 tools/base/pace.py watch [--with PID] COMMAND ..   runs a command, and ends it where it hangs
-       python3 tools/base/pace.py within SECONDS COMMAND ..       says whether a command takes at most so many seconds of
-                                                                  a processor, and how many it takes where it doesn't
+       python3 tools/base/pace.py within SECONDS COMMAND ..       runs a command up to three times, and tells its least
+                                                                  seconds of a processor where they are more
 
 A limit is multiplied by how many times slower this machine is than the reference. A piece of work tells that, which is
 done in the same run, when something reaches its limit: where all is quick, nothing is measured. Other work on the
@@ -120,8 +120,8 @@ def _fields(path):
 
 def family(pid):
     """A process and all that it began and that still runs, each by its number."""
-    every = {int(it): fields for it in os.listdir("/proc") if it.isdecimal() and (fields := _fields(f"/proc/{it}/stat"))}
-    every, below = {it: _process(fields) for it, fields in every.items()}, collections.defaultdict(list)
+    read = {int(it): _fields(f"/proc/{it}/stat") for it in os.listdir("/proc") if it.isdecimal()}
+    every, below = {it: _process(fields) for it, fields in read.items() if fields}, collections.defaultdict(list)
     for number, it in every.items():
         below[it.parent].append(number)
         # One whose parent has ended is known by its session.
@@ -165,7 +165,7 @@ def _signal(pids, number):
 
 
 class Watch:
-    """Looks at processes with all that they began, once in so many seconds, and raises where they hang or take too much.
+    """Looks at processes and all that they began, once in so many seconds, and raises where they hang or take too much.
 
     With `is_new` they have just begun. Otherwise only what they take after the first look counts. Of the process that
     looks only what it began counts.

@@ -1,5 +1,5 @@
-// Drops a file of a name and bytes in base64, and waits until a frame is shown in which a test holds; where there is none,
-// until the page has shown all anew or has told something, as it does when it takes or refuses a file.
+// Drops a file of a name and bytes in base64, and waits until a frame is shown in which a test holds; where there is
+// none, until the page has shown all anew or has told something, as it does when it takes or refuses a file.
 
 (async (name, base64, test) => {
   const bytes = Uint8Array.from(atob(base64), (character) => character.charCodeAt(0));
