@@ -9,9 +9,9 @@ usage: bin/test [OPTION ..] [PART ..]                what dist/ has: all parts, 
 Parts run side by side. Each tells how many tests it has run and how long it took; one that failed, all that it said.
 What the machine lacks, as a compiler (`cc`, or $CC) or a browser, is left out by name. With --whole, as the gate has
 it, only these parts may be left out: those of the page, for want of a browser, those for another machine, for want of
-its compiler and emulator, and `speed`, for want of valgrind. A limit is one of processor time, as on a reference machine: what exceeds it here is told
-as `too slow here`. The last line counts. The status is 0 only where tests ran and none failed; with --strict, as the
-gate has it, only where none was too slow either.
+its compiler and emulator, and `speed`, for want of valgrind. A limit is one of processor time, as on a reference
+machine: what exceeds it here is told as `too slow here`. The last line counts. The status is 0 only where tests ran and
+none failed; with --strict, as the gate has it, only where none was too slow either.
 """
 
 import itertools
