@@ -197,12 +197,12 @@ def outcome_of(call, *arguments):
         return why
 
 
-def outcome(call, arguments):
-    """What a call gives or raises on a new object, and the state of that object afterwards."""
+def outcome(call, arguments, it=None):
+    """What a call gives or raises on an object, or a new one, and the state of that object afterwards."""
     name, method = split(call)
     if not method:
         return outcome_of(CLASSES[name], *arguments), None
-    it = begun(name)
+    it = it or begun(name)
     return outcome_of(getattr(it, method), *arguments), state(it)
 
 
@@ -258,10 +258,11 @@ def test_numbers_out_of_range_are_refused():
         if not isinstance(kind, tuple) and kind != OUTSIDE:
             continue
         cls, method = split(call)
-        before = state(begun(cls)) if method else None
+        it = begun(cls) if method else None
+        before = state(it) if it else None
         for refusal, values in zip(kind if kind != OUTSIDE else (None, None), numbers_outside(name, taken)):
             for value in values:
-                told, after = outcome(call, with_one(row, number, value))
+                told, after = outcome(call, with_one(row, number, value), it)
                 is_so = type(told) is IndexError if kind == OUTSIDE else getattr(told, "name", None) == refusal
                 expect(is_so and after == before, f"{call}, {name} {value}: {told!r} in place of {refusal}")
 
@@ -276,9 +277,10 @@ NO_NUMBERS = [1.0, "5", b"5", True, False, [1], object(), complex(1, 0)]
 def test_wrong_types_are_told():
     for call, row, number, name, _, kind in arguments_of_rows():
         values = WRONG.get(kind, NO_NUMBERS) if isinstance(kind, str) else [*NO_NUMBERS, *[None] * (name != "room")]
+        it = begun(split(call)[0])
         # A manner may have a word.
         for value in values[:1] + values[2:] if name == "manner" else values:
-            told, _ = outcome(call, with_one(row, number, value))
+            told, _ = outcome(call, with_one(row, number, value), it)
             said = re.escape(f"{call}: argument `{name}`: ") + ".*" + re.escape(f", not {type(value).__name__!r}")
             expect(type(told) is TypeError and re.fullmatch(said, str(told)), f"{call}, {name} {value!r}: {told!r}")
 
@@ -362,9 +364,11 @@ def test_long_reads_need_no_memory():
 def test_texts_that_no_line_has():
     for call, row, number, name, taken, kind in arguments_of_rows():
         if kind == TEXT and name not in ("text", "script"):
+            it = begun("Desk")
+            before = state(it)
             for text in ("", "a\0", "a b", "a\n", "é", "a" * 13, b"\xff", "a" * 70_000):
-                told, after = outcome(call, with_one(row, number, text))
-                expect(getattr(told, "name", None) == "BAD_ARGUMENT" and after == state(begun("Desk")),
+                told, after = outcome(call, with_one(row, number, text), it)
+                expect(getattr(told, "name", None) == "BAD_ARGUMENT" and after == before,
                        f"{call}, {name} {text!r:.20}: {told!r}")
         if kind in (TEXT, BYTES):
             told, _ = outcome(call, with_one(row, number, "\ud800"))
@@ -379,18 +383,15 @@ def test_texts_that_no_line_has():
 
 
 def test_a_closed_desk_says_so():
+    desk = begun("Desk")
+    desk.close()
+    desk.close()
     for call, row, number, name, taken, kind in arguments_of_rows():
         if split(call)[0] != "Desk" or call in ("Desk", "Desk.close", "Desk.run"):
             continue
         for value in [taken, *sum(numbers_outside(name, taken), [])] if isinstance(kind, tuple) else [taken]:
-            desk = begun("Desk")
-            desk.close()
-            desk.close()
-            try:
-                getattr(desk, split(call)[1])(*with_one(row, number, value))
-                expect(False, f"{call} of a closed desk is done")
-            except Refused as why:
-                expect(why.name == "CLOSED", f"{call} of a closed desk, {name} {value}: {why}")
+            told = outcome_of(getattr(desk, split(call)[1]), *with_one(row, number, value))
+            expect(getattr(told, "name", None) == "CLOSED", f"{call} of a closed desk, {name} {value}: {told!r}")
 
 
 def test_manners_have_words():
@@ -480,8 +481,12 @@ def test_each_command_has_its_line():
     """A call leaves the desk as the line does by which it is drawn."""
     calls = [(split(call)[1], [taken for _, taken, _ in row]) for call, row in ROWS.items() if call.startswith("Desk.")]
     calls += [("cancel_in", ["a", 0]), ("cancel_out", ["a", 0])] + [("task", ["t", 4, manner]) for manner in range(4)]
+    calls += [("put", ["r", 0, 1, bytes(range(250)) * 6])]
     for call, given in calls:
         desk, by_line = begun("Desk"), begun("Desk")
+        if bytes in map(type, given):
+            for it in (desk, by_line):
+                it.extend("r", 0, 2000)
         if call == "spool":
             # Its scrap file is loaded, and gone.
             for it in (desk, by_line):
