@@ -65,6 +65,7 @@ ROWS = {
     "Desk.save": [NAME, ANCHOR_0, ("to", "r", TEXT), ("leaf", "doc", TEXT)], "Desk.poll": [NAME], "Desk.next": [NAME],
     "Desk.take": [NAME], "Desk.ack": [OF_RAW], "Desk.repeat": [NAME],
     "Desk.send": [OF_RAW, ("code", 17, ARGUMENT), TO, REF, ("action", 9, ARGUMENT), ("data", b"1234", BYTES)],
+    "Desk.write_at": [OF_RAW, ("address", 0x9009, ARGUMENT), ("data", b"hi", BYTES)],
     "Desk.transfer_to": [OF_RAW, ("address", 0x9008, ARGUMENT), TO, ("place", 0x8124, ARGUMENT), ("n", 3, ARGUMENT)],
     "Desk.spool": [OF_RAW, ANCHOR_0, TO, REF], "Desk.scrap": [OF_RAW, ("anchor", 1, ARGUMENT)],
     "Desk.cancel_in": [NAME, ("id", 3, ARGUMENT)], "Desk.cancel_out": [NAME, ("id", 6, ARGUMENT)],
@@ -481,7 +482,7 @@ def test_each_command_has_its_line():
     """A call leaves the desk as the line does by which it is drawn."""
     calls = [(split(call)[1], [taken for _, taken, _ in row]) for call, row in ROWS.items() if call.startswith("Desk.")]
     calls += [("cancel_in", ["a", 0]), ("cancel_out", ["a", 0])] + [("task", ["t", 4, manner]) for manner in range(4)]
-    calls += [("put", ["r", 0, 1, bytes(range(250)) * 6])]
+    calls += [("put", ["r", 0, 1, bytes(range(250)) * 6]), ("write_at", ["r", 0x9009, bytes(range(250)) * 6])]
     for call, given in calls:
         desk, by_line = begun("Desk"), begun("Desk")
         if bytes in map(type, given):

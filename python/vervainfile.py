@@ -376,17 +376,17 @@ def _drawing_program():
 # How an argument is spelled in a line, and the commands whose calls have other names.
 _SPELLED = {"t": bytes, "h": lambda it: it.hex().encode(), "x": lambda it: b"&%X" % it,
             "m": lambda it: MANNERS[it].encode(), "b": lambda it: b"on" if it else b"off"}
-_COMMANDS = {"take": "poll", "transfer_to": "transfer"}
+_COMMANDS = {"take": "poll", "transfer_to": "transfer", "write_at": "write"}
 
 
 def _lines_of(name, values):
-    """The lines of a script for a command with such arguments: a put of many bytes takes several."""
+    """The lines of a script for a command with such arguments: one that writes many bytes takes several."""
     if name == "line":
         return values
-    if name == "put" and len(values[-1]) > SPELLED:
-        task, anchor, offset, data = values
+    if name in ("put", "write_at") and len(values[-1]) > SPELLED:
+        *first, offset, data = values
         pieces = [(offset + at, data[at:at + SPELLED]) for at in range(0, len(data), SPELLED)]
-        return [line for piece in pieces for line in _lines_of("put", [task, anchor, *piece])]
+        return [line for piece in pieces for line in _lines_of(name, [*first, *piece])]
     kinds = [kind for _, kind in GIVEN[f"vf_desk_{name}"]]
     words = [_SPELLED.get(kind, lambda it: b"%d" % it)(it) for kind, it in zip(kinds, values)]
     first, *second = _COMMANDS.get(name, name).encode().split(b"_")
@@ -607,6 +607,10 @@ class Desk(_Own):
     def ack(self, name):
         """Wimp_SendMessage with 19 of a RAW task: the ref of the message that it held, 0 for none."""
         return self._tell("ack", name)
+
+    def write_at(self, name, address, data):
+        """Writes bytes at an address of a RAW task, as its code would store them."""
+        self._do("write_at", name, address, data)
 
     def transfer_to(self, name, address, to, place, n):
         """Wimp_TransferBlock of a RAW task: moves bytes to a place that another task opened."""

@@ -110,7 +110,8 @@ CALLS = {
     "vf_desk_write": "p name:t address:x offset:u data:h", "vf_desk_rma_read": "p address:x offset:u n:r p",
     "vf_desk_rma_write": "p address:x offset:u data:h", "vf_desk_transfer": "p sender:u address:x to:u address2:x n:u",
     "vf_desk_take": "p name:t p p", "vf_desk_send": "p name:t code:u to:u your_ref:u action:u data:h p",
-    "vf_desk_ack": "p name:t p", "vf_desk_transfer_to": "p name:t address:x to:u place:x n:u",
+    "vf_desk_ack": "p name:t p", "vf_desk_write_at": "p name:t address:x data:h",
+    "vf_desk_transfer_to": "p name:t address:x to:u place:x n:u",
     "vf_desk_spool": "p name:t anchor:u to:u your_ref:u p", "vf_desk_scrap": "p name:t anchor:u p",
     "vf_desk_line": "p text:t", "vf_desk_reply": "p p z p",
 }
