@@ -829,8 +829,9 @@ uint32_t vf_desk_rma_write(struct vf_desk *desk, uint32_t address, uint32_t offs
 
 /* Wimp_TransferBlock: moves `n` bytes from an address in the slot of one task to an address in the slot of another, or
  * in its own. Tasks are told by their handles, and an address may lie anywhere in a block. Whether a transfer uses the
- * blocks is not looked at. In this order: VF_NO_TASK where a task is not live, VF_BAD_RANGE where either range does not
- * lie whole in one live block, or where the two share a byte. */
+ * blocks is not looked at: the bytes of a buffer that fetches may be overwritten. vf_desk_transfer_to asks for a place
+ * that was opened. In this order: VF_NO_TASK where a task is not live, VF_BAD_RANGE where either range does not lie
+ * whole in one live block, or where the two share a byte. */
 uint32_t vf_desk_transfer(struct vf_desk *desk, uint32_t from, uint32_t address, uint32_t to, uint32_t address2,
                           uint32_t n);
 
@@ -856,6 +857,12 @@ uint32_t vf_desk_send(struct vf_desk *desk, const uint8_t *name, size_t name_len
 /* Wimp_SendMessage with code 19: says that the message which the task holds is answered, so that it does not come back
  * to its sender. Tells its ref, 0 where none is held. VF_NO_NAME, VF_WRONG_MANNER. */
 uint32_t vf_desk_ack(struct vf_desk *desk, const uint8_t *name, size_t name_len, uint32_t *answered);
+
+/* Writes bytes, one at least, at an address of the task, as its code would store them. All of them lie in one of its
+ * blocks, a flex block or one of the C heap, and of the desk these bytes change alone. VF_NO_NAME, VF_BAD_RANGE,
+ * VF_WRONG_MANNER. */
+uint32_t vf_desk_write_at(struct vf_desk *desk, const uint8_t *name, size_t name_len, uint32_t address,
+                          const uint8_t *from, size_t from_len);
 
 /* Wimp_TransferBlock: moves `n` bytes at an address of the task to a place that the task `to` opened: of one that the
  * desk plays in the buffer of a transfer that fetches from this task; of another in what a RAMFetch names that this
@@ -1433,6 +1440,10 @@ VF_UNLESS_NULL(vf_desk_send,
 VF_UNLESS_NULL(vf_desk_ack,
                (struct vf_desk *desk, const uint8_t *name, size_t name_len, uint32_t *answered),
                desk && name && answered, (desk, name, name_len, answered))
+VF_UNLESS_NULL(vf_desk_write_at,
+               (struct vf_desk *desk, const uint8_t *name, size_t name_len, uint32_t address, const uint8_t *from,
+                size_t from_len),
+               desk && name && from, (desk, name, name_len, address, from, from_len))
 VF_UNLESS_NULL(vf_desk_transfer_to,
                (struct vf_desk *desk, const uint8_t *name, size_t name_len, uint32_t address, uint32_t to,
                 uint32_t place, uint32_t n),
@@ -1630,6 +1641,7 @@ VF_UNLESS_NULL(vf_message_decode,
 #define vf_desk_take vf_desk_take_unless_null
 #define vf_desk_send vf_desk_send_unless_null
 #define vf_desk_ack vf_desk_ack_unless_null
+#define vf_desk_write_at vf_desk_write_at_unless_null
 #define vf_desk_transfer_to vf_desk_transfer_to_unless_null
 #define vf_desk_spool vf_desk_spool_unless_null
 #define vf_desk_scrap vf_desk_scrap_unless_null
