@@ -44,10 +44,10 @@ class Suite:
     the machine lacks for more."""
 
     def __init__(self, top, folder, work, target=HERE):
-        self.top, self.folder, self.work = top, folder, work
-        self.tried, self.wrong, self.slow, self.lacking = 0, [], [], []
+        self.top, self.folder, self.work, self.tried, self.wrong, self.slow = top, folder, work, 0, [], []
         self.compiler, self.runner = target.compiler or tuple(archive.compiler()), target.runner
         self.target, self.ways, self.lock = target, EMULATED if target.name else WAYS, threading.Lock()
+        self.lacking = []
 
     def has(self, program, what):
         """Whether the machine has a program; else what is left out is noted."""
