@@ -280,7 +280,8 @@ def try_examples_in_python(port):
 
 
 def try_python(port):
-    """The tables of the module for Python are those of the header."""
+    """The examples for Python hold, and the module's tables are those of the header."""
+    try_examples_in_python(port)
     module, text = module_of(port), header.text_of(port.top)
     numbers = dict(header.NUMBER.findall(text))
     statuses = header.SAID.findall(text.partition("};")[0])
@@ -311,8 +312,7 @@ def run_all(port):
         calls += [begun(try_standard, it, standard, compiling)
                   for it in there for standard in STANDARDS[COMPILERS[it]]]
         calls.append(begun(try_page, compiling))
-        calls += [begun(it) for it in (try_command, try_machines, try_names, try_cmake, try_python,
-                                       try_examples_in_python)]
+        calls += [begun(it) for it in (try_command, try_machines, try_names, try_cmake, try_python)]
     for it in calls:
         try:
             it.result()
