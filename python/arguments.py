@@ -499,7 +499,9 @@ def test_each_command_has_its_line():
             continue
         replies = by_line.run(b"\n".join(vervainfile._lines_of(*desk._done[-1])))
         expect(len(desk._done) == before + 1 and replies.startswith("ok"), f"{call} as a line: {replies}")
-        expect(state(desk)[:3] == state(by_line)[:3], f"{call} and its line leave the desk otherwise")
+        was = [comparable(outcome_of(it.budge, "a", True)) for it in (desk, by_line)]
+        is_same = state(desk)[:3] == state(by_line)[:3] and was[0] == was[1]
+        expect(is_same, f"{call} and its line leave the desk otherwise")
 
 
 def test_each_call_of_the_library_is_made():
