@@ -119,8 +119,8 @@ class Browser:
         return Tab(self, target, session, address, before)
 
     def end(self):
-        """Ends it where it doesn't answer any more."""
-        self.process.kill()
+        """Ends it where it doesn't answer any more, with all that it began."""
+        pace.end(self.process.pid)
         self.process.wait()
         self.folder.cleanup()
 

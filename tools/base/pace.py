@@ -38,6 +38,8 @@ PIECES, TRIES = 5, 3
 LOOK, LOOKS = 5, 12
 # What is still may take this share of a processor, as a browser does that shows nothing new.
 STILL = 0.02
+# So many seconds of the clock the text of a command that was ended is waited for.
+GONE = 10
 # The seconds of a processor that a command may take where its caller names no other limit.
 MOST = 120
 TICKS = os.sysconf("SC_CLK_TCK")
@@ -252,11 +254,11 @@ def _communicated(running, watch):
 
 
 def _left(running):
-    """What a command that was ended had printed."""
+    """What a command that was ended had printed, as far as that is known: something that it began may hold a pipe."""
     try:
-        return running.communicate(timeout=LOOK)[0]
-    except subprocess.TimeoutExpired:
-        return None
+        return running.communicate(timeout=GONE)[0]
+    except subprocess.TimeoutExpired as why:
+        return why.output
 
 
 def wait(running, most=None):
